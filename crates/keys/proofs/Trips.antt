@@ -113,9 +113,10 @@ only-from bs k true t u h =
     let e = words-only 4 bs u (omega arith) in
     let f : big-endian 4 (number 256 (drop 32 bs)) ≡ drop 32 bs = ap (λ n. big-endian n (number 256 (drop 32 bs))) (sym dl) ∙ big-endian-number (drop 32 bs) ud in
     let small = number-lt 256 (drop 32 bs) ud in
-    let Fit : List ℕ → Type 0 = λ ws. All (λ w. w < 2 ^ 64) ws in
-    (sym e ∙ (ap (λ xs. joined (big-endian 8) (words-of 4 bs) ++ xs) (sym f) ∙ (ap (λ ws. joined (big-endian 8) ws ++ big-endian 4 (number 256 (drop 32 bs))) w ∙ ap (λ n. joined (big-endian 8) (k .words) ++ big-endian 4 n) c)),
-    ((ap length (sym w) ∙ length-words-of 4 bs, subst Fit w (words-fit 4 bs u (omega arith))), omega (arith, ap (λ n. 256 ^ n) dl)))
+    let Fit : List ℕ → Type 0 = λ ws. All (λ w. w < 2 ^ 64) ws in (
+      sym e ∙ (ap (λ xs. joined (big-endian 8) (words-of 4 bs) ++ xs) (sym f) ∙ (ap (λ ws. joined (big-endian 8) ws ++ big-endian 4 (number 256 (drop 32 bs))) w ∙ ap (λ n. joined (big-endian 8) (k .words) ++ big-endian 4 n) c)),
+      ((ap length (sym w) ∙ length-words-of 4 bs, subst Fit w (words-fit 4 bs u (omega arith))), omega (arith, ap (λ n. 256 ^ n) dl)),
+    )
 only-from bs k false t u h = let z : _≡_ {A = ℕ} 0 1 = cc in absurd (omega arith)
 
 pub only : (bs : List ℕ) (k : Key) → Under 256 bs → read-key bs ≡ Some k → (bs ≡ key-bytes k) × Key-fits k

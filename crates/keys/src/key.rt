@@ -21,7 +21,7 @@ pub impl PartialEq<Key> for Key as KeyPartialEq {
     ghost equals = { λ a b r. Decides r (a ≡ b) };
 
     fn eq(&self, other: &Key) -> bool {
-        self.words == other.words && self.count == other.count
+        other.words == self.words && other.count == self.count
     }
 }
 

@@ -61,7 +61,10 @@ fn show_key<D: Digest>(rt: &LibcRuntime, name: &str) -> io::Result<bool> {
             Ok(true)
         }
         None => {
-            eprintln!(rt, "kiln: {name}: too long for this digest, which takes up to {most} bytes")?;
+            eprintln!(
+                rt,
+                "kiln: {name}: too long for this digest, which takes up to {most} bytes"
+            )?;
             Ok(false)
         }
     }

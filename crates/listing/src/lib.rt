@@ -17,7 +17,7 @@ use std::alloc::Global;
 pub fn key_text(heap: Global, key: &Key) -> Result<String, AllocError>
     ensures { λ r. ⌜ made r (λ t. string-bytes t ≡ key-text (now (key .entry))) ⌝ }
 {
-    let mut bytes = [0u8; 36];
+    let mut bytes = [0u8; Key::SIZE];
     let _ = key.write(&mut bytes);
     hex_text(heap, &bytes)
 }
@@ -32,7 +32,11 @@ fn line_of(heap: Global, key: &Key, name: &str) -> Result<String, AllocError>
 }
 
 /// The line of the key of some bytes under a digest; absent where they are too long for it.
-pub fn key_line<D: Digest>(heap: Global, bytes: &[u8], name: &str) -> Result<Option<String>, AllocError>
+pub fn key_line<D: Digest>(
+    heap: Global,
+    bytes: &[u8],
+    name: &str,
+) -> Result<Option<String>, AllocError>
     ensures { λ r. ⌜ made r (λ line. mapped string-bytes line ≡ mapped (key-line (now (name .entry))) (key-of (D·Digest .most) (D·Digest .words) (now (bytes .entry)))) ⌝ }
 {
     match key_of::<D>(bytes) {

@@ -22,6 +22,7 @@ loop-i-again c =
     let k = length xs - i in
     let y = c .loop-i .rest % 256 in
     let l = length-set xs (i - 1) y in
-    let m : length (set xs (i - 1) y) - (i - 1) ≡ suc k = omega arith in
-    (ap (λ x. x / 256) (c .loop-i .inv .0) ∙ rest-more (c .args .number) k _ m,
-    places-more xs (c .args .number) i _ k y (omega arith) (omega arith) refl m (ap (λ x. x % 256) (c .loop-i .inv .0)) (c .loop-i .inv .1))
+    let m : length (set xs (i - 1) y) - (i - 1) ≡ suc k = omega arith in (
+      ap (λ x. x / 256) (c .loop-i .inv .0) ∙ rest-more (c .args .number) k _ m,
+      places-more xs (c .args .number) i _ k y (omega arith) (omega arith) refl m (ap (λ x. x % 256) (c .loop-i .inv .0)) (c .loop-i .inv .1),
+    )

@@ -56,5 +56,5 @@ returns c =
     let n = count-read c ∙ ap (number 256) (take-all 4 (drop 32 bs) (omega arith)) in
     let four : c .loop-i .i ≡ 4 = omega arith in
     let w : c .loop-i .words ≡ words-of 4 bs =
-      sym (take-all (c .loop-i .i) (c .loop-i .words) (omega arith)) ∙ (c .loop-i .inv .0 ∙ ap (λ i. words-of i bs) four) in
+    sym (take-all (c .loop-i .i) (c .loop-i .words) (omega arith)) ∙ (c .loop-i .inv .0 ∙ ap (λ i. words-of i bs) four) in
     rw t (ap Some (same-parts _ _ w n))

@@ -28,6 +28,6 @@ returns c =
     let b = ap (λ k. big-endian k (c .from .result)) l ∙ ap (big-endian 4) (c .from .ensures) in
     let t = eq-eqb (length (c .args .into .now)) 36 (omega arith) in
     let last =
-      write-last (c .args .self .now .words) (c .args .into .now) ys _ (c .loop-i .i) n (omega arith) (omega arith) (omega arith) (c .loop-i .inv)
-      (putMid-paste 32 4 ys (c .write-number-2 .last .into) (big-endian 4 n) 4 (c .write-number-2 .ensures ∙ b) refl refl) in
+    write-last (c .args .self .now .words) (c .args .into .now) ys _ (c .loop-i .i) n (omega arith) (omega arith) (omega arith) (c .loop-i .inv)
+    (putMid-paste 32 4 ys (c .write-number-2 .last .into) (big-endian 4 n) 4 (c .write-number-2 .ensures ∙ b) refl refl) in
     rw t (record { answer = refl; after = last })
