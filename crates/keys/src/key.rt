@@ -65,6 +65,15 @@ impl Key {
         true
     }
 
+    /// The bytes of the key.
+    pub fn to_bytes(&self) -> [u8; 36]
+        ensures { λ r. ⌜ r ≡ key-bytes (now (self .entry)) ⌝ }
+    {
+        let mut bytes = [0u8; Key::SIZE];
+        let _ = self.write(&mut bytes);
+        bytes
+    }
+
     /// The key that a slice of a key's size holds; absent for another size.
     pub fn read(bytes: &[u8]) -> Option<Key>
         ensures { λ r. ⌜ r ≡ read-key (now (bytes .entry)) ⌝ }

@@ -17,9 +17,7 @@ use std::alloc::Global;
 pub fn key_text(heap: Global, key: &Key) -> Result<String, AllocError>
     ensures { λ r. ⌜ made r (λ t. string-bytes t ≡ key-text (now (key .entry))) ⌝ }
 {
-    let mut bytes = [0u8; Key::SIZE];
-    let _ = key.write(&mut bytes);
-    hex_text(heap, &bytes)
+    hex_text(heap, &key.to_bytes())
 }
 
 /// The line of one key: the key, the byte count, the name.
