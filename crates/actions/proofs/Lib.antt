@@ -1,0 +1,4 @@
+pub mod Tests
+pub mod Rooms
+pub mod Puts
+pub mod Makes
