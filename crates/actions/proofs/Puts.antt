@@ -47,18 +47,18 @@ put-more {X} text xs i x d ys out at place kind body r h ex et long fits inv er 
     let p = put-yes kind body ys out place r long (omega arith) er eo in
     let lb : length (record-bytes kind body) ≡ n = omega arith in
     let grown : js ++ record-bytes kind body ≡ joined text (take (i + 1) xs) =
-      ap (λ zs. js ++ zs) (sym et) ∙ (ap (λ y. js ++ text y) ex ∙ (joined-more text [] (take i xs) (getD xs i x) ∙ sym (ap (joined text) (take-more xs i x h)))) in
+    ap (λ zs. js ++ zs) (sym et) ∙ (ap (λ y. js ++ text y) ex ∙ (joined-more text [] (take i xs) (getD xs i x) ∙ sym (ap (joined text) (take-more xs i x h)))) in
     let e1 : paste ys place (record-bytes kind body) n ≡ paste (paste d at js (i * n)) (at + i * n) (record-bytes kind body) n =
-      ap (λ zs. paste zs place (record-bytes kind body) n) ey ∙ ap (λ k. paste (paste d at js (i * n)) k (record-bytes kind body) n) ep in
+    ap (λ zs. paste zs place (record-bytes kind body) n) ey ∙ ap (λ k. paste (paste d at js (i * n)) k (record-bytes kind body) n) ep in
     let e2 = paste-paste d at js (record-bytes kind body) (i * n) n (sym ljs) (sym lb) (omega arith) in
     let e3 : paste d at (js ++ record-bytes kind body) (i * n + n) ≡ paste d at (joined text (take (i + 1) xs)) (length (take (i + 1) xs) * n) =
-      ap (λ zs. paste d at zs (i * n + n)) grown ∙ ap (paste d at (joined text (take (i + 1) xs))) (sym (sizej ∙ m)) in
+    ap (λ zs. paste d at zs (i * n + n)) grown ∙ ap (paste d at (joined text (take (i + 1) xs))) (sym (sizej ∙ m)) in
     let place-of : place + n ≡ at + length (take (i + 1) xs) * n = omega arith in
     let lg = length-append js (record-bytes kind body) in
     record {
       place = p .0 ∙ ap Some place-of;
       bytes = p .1 ∙ (e1 ∙ (e2 ∙ e3));
-      long = ap length (sym grown) ∙ (lg ∙ omega arith)
+      long = ap length (sym grown) ∙ (lg ∙ omega arith);
     }
 
 -- all are written

@@ -20,5 +20,5 @@ room-body room last n long short pad e =
     let l = length-take-le n room (omega arith) in
     let m : 16 - length (take n room) ≡ 16 - n = omega arith in
     let r : last ++ [] ≡ take n room ++ replicate (16 - length (take n room)) 0 =
-      append-nil last ∙ (e ∙ (sym (take-append-drop n room) ∙ (ap (λ xs. take n room ++ xs) pad ∙ ap (λ k. take n room ++ replicate k 0) (sym m)))) in
+    append-nil last ∙ (e ∙ (sym (take-append-drop n room) ∙ (ap (λ xs. take n room ++ xs) pad ∙ ap (λ k. take n room ++ replicate k 0) (sym m)))) in
     ap (λ k. k ∷ (last ++ [])) (sym l) ∙ ap (λ xs. length (take n room) ∷ xs) r

@@ -3,15 +3,14 @@ use mathlib.Core.List.{List, [], _∷_, _++_}
 use mathlib.Core.Bool.{Bool, true, cond, _&&_}
 use Prim.Native.Nat.{ℕ, zero, suc, _+_, _*_, _≤_}
 use lib.Dec.{leb}
-use lib.ListN.{length, getD}
+use lib.ListN.{length}
 use lib.Seq.{paste}
 use Rattle.std.specs.Joined.{joined}
 use Rattle.std.specs.Options.{mapped}
 use Rattle.std.specs.declared.option.Option.{Option}
 use Rattle.std.specs.declared.option.Option.the-variants.{Some, None}
 use Rattle.std.specs.shelf.Digits.{Under}
-use Rattle.std.specs.shelf.Lists.{All}
-use Rattle.keys.specs.Keys.{key-bytes, read-key, Key-fits}
+use Rattle.keys.specs.Keys.{key-bytes, read-key}
 use Rattle.keys.specs.declared.key.Key.{Key}
 use Rattle.records.specs.declared.kind.Kind.{Kind}
 use Rattle.records.specs.declared.kind.Kind.the-variants.{End, Operation, Argument, Input}
@@ -71,19 +70,32 @@ abbrev pub read-record : {X : Type 0} → Kind → (List ℕ → Option X) → L
 read-record kind body bs =
     and-then (split-record kind bs) (λ s. mapped (λ x. record { part = x; rest = s .rest }) (body (s .part)))
 
+-- what was read, without the bytes behind it
+abbrev pub part-in : {X : Type 0} → Option (Split X) → Option X
+part-in o = mapped (λ s. s .part) o
+
 -- one element in front of those that were read
 abbrev pub before : {X : Type 0} → X → Split (List X) → Split (List X)
 before x s = record { part = x ∷ s .part; rest = s .rest }
 
+-- elements in front of those that were read
+abbrev pub all-before : {X : Type 0} → List X → Split (List X) → Split (List X)
+all-before xs s = record { part = xs ++ s .part; rest = s .rest }
+
+-- nothing was read, or something, and what follows from it
+abbrev pub or-none : {X : Type 0} → List ℕ → Option (Split X) → (Split X → Split (List X)) → Split (List X)
+or-none bs None more = record { part = []; rest = bs }
+or-none bs (Some s) more = more s
+
 -- at most n elements at the front of bytes, as far as each is read, and the bytes behind them
 abbrev pub several : {X : Type 0} → (List ℕ → Option (Split X)) → ℕ → List ℕ → Split (List X)
 several item zero bs = record { part = []; rest = bs }
-several item (suc n) bs =
-    elim (item bs) [ None ↦ record { part = []; rest = bs } | Some s ↦ before (s .part) (several item n (s .rest)) ]
+several item (suc n) bs = or-none bs (item bs) (λ s. before (s .part) (several item n (s .rest)))
 
--- the only byte of an operation's body
+-- the first byte of an operation's body
 abbrev pub read-letter : List ℕ → Option ℕ
-read-letter body = Some (getD body 0 0)
+read-letter [] = None
+read-letter (l ∷ body) = Some l
 
 abbrev pub read-argument : List ℕ → Option (Split (List ℕ))
 read-argument bs = read-record Argument read-argument-body bs
@@ -106,7 +118,7 @@ read-action bs =
 -- an action reads back from its text; bytes that read as an action are its text; different actions have different texts
 abbrev pub Actions-round-trip : Type 0
 Actions-round-trip =
-    ((a : Act) → is-action a ≡ true → All Key-fits (a .inputs) → read-action (action-text a) ≡ Some a)
-    × ((bs : List ℕ) (a : Act) → Under 256 bs → read-action bs ≡ Some a → (bs ≡ action-text a) × ((is-action a ≡ true) × All Key-fits (a .inputs)))
-    × ((a b : Act) → is-action a ≡ true → is-action b ≡ true → All Key-fits (a .inputs) → All Key-fits (b .inputs) → action-text a ≡ action-text b → a ≡ b)
-    × ((a : Act) → is-action a ≡ true → All Key-fits (a .inputs) → (length (action-text a) ≡ action-size (length (a .arguments)) (length (a .inputs))) × (length (action-text a) ≤ 187))
+    ((a : Act) → is-action a ≡ true → read-action (action-text a) ≡ Some a)
+    × ((bs : List ℕ) (a : Act) → Under 256 bs → read-action bs ≡ Some a → (bs ≡ action-text a) × (is-action a ≡ true))
+    × ((a b : Act) → is-action a ≡ true → is-action b ≡ true → action-text a ≡ action-text b → a ≡ b)
+    × ((a : Act) → is-action a ≡ true → (length (action-text a) ≡ action-size (length (a .arguments)) (length (a .inputs))) × (length (action-text a) ≤ 187))

@@ -21,13 +21,6 @@ abbrev pub act-of : Action → Act
 act-of a =
     record { letter = a .letter; arguments = map argument-bytes (take (a .«argument_count») (a .arguments)); inputs = take (a .«input_count») (a .inputs) }
 
--- an argument and the bytes behind it
-abbrev pub argument-split : Argument × RefT (List ℕ) → Split (List ℕ)
-argument-split p = record { part = argument-bytes (p .0); rest = now (p .1) }
-
-abbrev pub input-split : Key × RefT (List ℕ) → Split Key
-input-split p = record { part = p .0; rest = now (p .1) }
-
 -- the elements read into the front of a slice, and the bytes behind them
 abbrev pub arguments-read : ℕ × RefT (List ℕ) → List Argument → Split (List (List ℕ))
 arguments-read p into = record { part = map argument-bytes (take (p .0) into); rest = now (p .1) }

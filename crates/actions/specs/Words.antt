@@ -28,7 +28,7 @@ argument-body w = length w ∷ w ++ replicate (argument-room - length w) 0
 abbrev pub read-argument-body : List ℕ → Option (List ℕ)
 read-argument-body [] = None
 read-argument-body (n ∷ bs) =
-    cond (leb n argument-room && (is-argument (take n bs) && each (eqb 0) (drop n bs))) (Some (take n bs)) None
+    cond (leb n (length bs) && (is-argument (take n bs) && each (eqb 0) (drop n bs))) (Some (take n bs)) None
 
 -- the letter of an operation: A to Z
 abbrev pub is-letter : ℕ → Bool

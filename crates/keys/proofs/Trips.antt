@@ -1,8 +1,11 @@
 use mathlib.Core.Path.{_≡_, refl, sym, ap, subst, _∙_}
 use mathlib.Core.List.{List, [], _∷_, _++_}
 use mathlib.Core.Bool.{Bool, true, false, cond, _&&_}
-use Prim.Native.Nat.{ℕ, zero, suc, _+_, _-_, _*_, _^_, _<_, _≤_}
+use Prim.Native.Nat.{ℕ, zero, suc, _+_, _-_, _*_, _%_, _^_, _<_, _≤_}
 use native.Mathlib.Omega.{arith}
+use native.Mathlib.Bridge.{le-prop}
+use native.Mathlib.Nat.{mod-eq-of-lt}
+use mathlib.Core.HLevel.{isProp→PathP}
 use lib.Dec.{eqb}
 use lib.ListN.{length, take, drop, getD}
 use lib.Seq.{paste}
@@ -12,7 +15,7 @@ use Rattle.std.specs.shelf.Digits.{number, Under}
 use Rattle.std.specs.shelf.Lists.{All}
 use Rattle.std.specs.shelf.Text.{sameBytes}
 use Rattle.std.proofs.shelf.Digits.{number-lt}
-use Rattle.std.proofs.shelf.Elements.{all-take, all-drop}
+use Rattle.std.proofs.shelf.Elements.{all-append, all-take, all-drop}
 use Rattle.std.proofs.shelf.Equals.{sameBytes-decides}
 use Rattle.std.proofs.shelf.Lists.{append-assoc, append-nil, length-append, length-take-le, length-drop, drop-drop, drop-all, take-at, drop-at, take-append-drop, take-more, take-all, joined-more}
 use Rattle.std.proofs.shelf.Tests.{eq-eqb, eqb-true}
@@ -21,7 +24,7 @@ use Rattle.std.specs.declared.option.Option.the-variants.{Some, None}
 use Rattle.numbers.specs.BigEndian.{big-endian}
 use Rattle.numbers.proofs.Trips.{length-big-endian, under-big-endian, number-big-endian, big-endian-number}
 use Rattle.keys.specs.declared.key.Key.{Key}
-use Rattle.keys.specs.Keys.{key-size, words-size, key-bytes, words-of, read-key, Four-words, Key-fits, same-key}
+use Rattle.keys.specs.Keys.{key-size, words-size, make-key, key-words, key-bytes, words-of, read-key, same-key}
 
 -- the bytes of words, eight to each
 pub length-words : (ws : List ℕ) → length (joined (big-endian 8) ws) ≡ 8 * length ws
@@ -32,14 +35,10 @@ length-words (w ∷ ws) =
     let r = length-words ws in
     omega arith
 
--- a key has its size in bytes
-pub length-key-bytes : (k : Key) → Key-fits k → length (key-bytes k) ≡ key-size
-length-key-bytes k fits =
-    let e = length-append (joined (big-endian 8) (k .words)) (big-endian 4 (k .count)) in
-    let w = length-words (k .words) in
-    let c = length-big-endian 4 (k .count) in
-    let f = fits .0 .0 in
-    omega arith
+under-words : (ws : List ℕ) → Under 256 (joined (big-endian 8) ws)
+under-words [] = tt
+under-words (w ∷ ws) =
+    all-append (λ b. b < 256) (big-endian 8 w) (joined (big-endian 8) ws) (under-big-endian 8 w) (under-words ws)
 
 -- words read back from their bytes, whatever lies behind
 pub words-back : (ws rest : List ℕ) → All (λ w. w < 2 ^ 64) ws → words-of (length ws) (joined (big-endian 8) ws ++ rest) ≡ ws
@@ -91,49 +90,101 @@ words-of-more (suc i) bs =
     let s : suc i + 1 ≡ suc (i + 1) = omega arith in
     ap (λ n. words-of n bs) s ∙ ap (λ ws. number 256 (take 8 bs) ∷ ws) (r ∙ ap (λ xs. words-of i (drop 8 bs) ++ number 256 (take 8 xs) ∷ []) e)
 
-pub back : (k : Key) → Key-fits k → read-key (key-bytes k) ≡ Some k
-back k fits =
-    let js = joined (big-endian 8) (k .words) in
-    let t : eqb (length (key-bytes k)) key-size ≡ true = eq-eqb _ _ (length-key-bytes k fits) in
-    let w = words-back (k .words) (big-endian 4 (k .count)) (fits .0 .1) in
-    let v : words-of 4 (key-bytes k) ≡ k .words = ap (λ n. words-of n (key-bytes k)) (sym (fits .0 .0)) ∙ w in
-    let l : length js ≡ words-size = length-words (k .words) ∙ ap (λ n. 8 * n) (fits .0 .0) in
-    let d = drop-at js (big-endian 4 (k .count)) words-size l in
-    let c : number 256 (drop words-size (key-bytes k)) ≡ k .count = ap (number 256) d ∙ number-big-endian 4 (k .count) (fits .1) in
-    rw (t, v, c)
+-- keys of equal words and equal counts are one key
+pub same-parts : (j k : Key) → key-words j ≡ key-words k → j .count ≡ k .count → j ≡ k
+same-parts j k w c =
+    let p : j .first ≡ k .first = ap (λ ws. getD ws 0 0) w in
+    let q : j .second ≡ k .second = ap (λ ws. getD ws 1 0) w in
+    let r : j .third ≡ k .third = ap (λ ws. getD ws 2 0) w in
+    let s : j .fourth ≡ k .fourth = ap (λ ws. getD ws 3 0) w in
+    λ i. record {
+      first = p i;
+      second = q i;
+      third = r i;
+      fourth = s i;
+      count = c i;
+      «first_fits» = isProp→PathP (λ i. p i < 2 ^ 64) (λ i. le-prop) (j .«first_fits») (k .«first_fits») i;
+      «second_fits» = isProp→PathP (λ i. q i < 2 ^ 64) (λ i. le-prop) (j .«second_fits») (k .«second_fits») i;
+      «third_fits» = isProp→PathP (λ i. r i < 2 ^ 64) (λ i. le-prop) (j .«third_fits») (k .«third_fits») i;
+      «fourth_fits» = isProp→PathP (λ i. s i < 2 ^ 64) (λ i. le-prop) (j .«fourth_fits») (k .«fourth_fits») i;
+      «count_fits» = isProp→PathP (λ i. c i < 2 ^ 32) (λ i. le-prop) (j .«count_fits») (k .«count_fits») i;
+    }
 
-only-from : (bs : List ℕ) (k : Key) (b : Bool) → b ≡ eqb (length bs) key-size → Under 256 bs → cond b (Some (record { words = words-of 4 bs; count = number 256 (drop words-size bs) })) None ≡ Some k → (bs ≡ key-bytes k) × Key-fits k
+-- numbers that fit are not cut
+pub uncut : (k : Key) (ws : List ℕ) (n : ℕ) → length ws ≡ 4 → All (λ w. w < 2 ^ 64) ws → n < 2 ^ 32 → key-words k ≡ ws → k .count ≡ n → make-key ws n ≡ k
+unfolding make-key
+uncut k (a ∷ b ∷ c ∷ d ∷ []) n four fits short ew en =
+    let p = mod-eq-of-lt (fits .0) in
+    let q = mod-eq-of-lt (fits .1 .0) in
+    let r = mod-eq-of-lt (fits .1 .1 .0) in
+    let s = mod-eq-of-lt (fits .1 .1 .1 .0) in
+    let m = mod-eq-of-lt short in
+    let w : key-words (make-key (a ∷ b ∷ c ∷ d ∷ []) n) ≡ a ∷ b ∷ c ∷ d ∷ [] = cc in
+    same-parts (make-key (a ∷ b ∷ c ∷ d ∷ []) n) k (w ∙ sym ew) (m ∙ sym en)
+uncut k [] n four fits short ew en = absurd (omega arith)
+uncut k (a ∷ []) n four fits short ew en = absurd (omega arith)
+uncut k (a ∷ b ∷ []) n four fits short ew en = absurd (omega arith)
+uncut k (a ∷ b ∷ c ∷ []) n four fits short ew en = absurd (omega arith)
+uncut k (a ∷ b ∷ c ∷ d ∷ e ∷ ws) n four fits short ew en = absurd (omega arith)
+
+-- a key has its size in bytes, and these are bytes
+pub length-key-bytes : (k : Key) → length (key-bytes k) ≡ key-size
+unfolding key-bytes
+length-key-bytes k = refl
+
+pub under-key-bytes : (k : Key) → Under 256 (key-bytes k)
+unfolding key-bytes
+under-key-bytes k =
+    all-append (λ b. b < 256) (joined (big-endian 8) (key-words k)) (big-endian 4 (k .count))
+    (under-words (key-words k)) (under-big-endian 4 (k .count))
+
+-- the words of a key fit
+pub words-of-key-fit : (k : Key) → All (λ w. w < 2 ^ 64) (key-words k)
+words-of-key-fit k = (k .«first_fits», (k .«second_fits», (k .«third_fits», (k .«fourth_fits», tt))))
+
+pub back : (k : Key) → read-key (key-bytes k) ≡ Some k
+unfolding make-key key-bytes
+back k =
+    let ws = key-words k in
+    let js = joined (big-endian 8) ws in
+    let w : words-of 4 (key-bytes k) ≡ ws = words-back ws (big-endian 4 (k .count)) (words-of-key-fit k) in
+    let d = drop-at js (big-endian 4 (k .count)) words-size (length-words ws) in
+    let c : number 256 (drop words-size (key-bytes k)) ≡ k .count = ap (number 256) d ∙ number-big-endian 4 (k .count) (k .«count_fits») in
+    let e = ap (λ vs. make-key vs (number 256 (drop words-size (key-bytes k)))) w ∙ ap (make-key ws) c in
+    ap Some (e ∙ uncut k ws (k .count) refl (words-of-key-fit k) (k .«count_fits») refl refl)
+
+only-from : (bs : List ℕ) (k : Key) (b : Bool) → b ≡ eqb (length bs) key-size → Under 256 bs → cond b (Some (make-key (words-of 4 bs) (number 256 (drop words-size bs)))) None ≡ Some k → bs ≡ key-bytes k
+unfolding make-key key-bytes
 only-from bs k true t u h =
     let l : length bs ≡ 36 = eqb-true (length bs) 36 (sym t) in
     let d = length-drop 32 bs in
     let dl : length (drop 32 bs) ≡ 4 = omega arith in
     let ud = all-drop (λ b. b < 256) 32 bs u in
-    let w : words-of 4 bs ≡ k .words = cc in
-    let c : number 256 (drop 32 bs) ≡ k .count = cc in
-    let e = words-only 4 bs u (omega arith) in
-    let f : big-endian 4 (number 256 (drop 32 bs)) ≡ drop 32 bs = ap (λ n. big-endian n (number 256 (drop 32 bs))) (sym dl) ∙ big-endian-number (drop 32 bs) ud in
+    let ws = words-of 4 bs in
+    let n = number 256 (drop 32 bs) in
     let small = number-lt 256 (drop 32 bs) ud in
-    let Fit : List ℕ → Type 0 = λ ws. All (λ w. w < 2 ^ 64) ws in (
-      sym e ∙ (ap (λ xs. joined (big-endian 8) (words-of 4 bs) ++ xs) (sym f) ∙ (ap (λ ws. joined (big-endian 8) ws ++ big-endian 4 (number 256 (drop 32 bs))) w ∙ ap (λ n. joined (big-endian 8) (k .words) ++ big-endian 4 n) c)),
-      ((ap length (sym w) ∙ length-words-of 4 bs, subst Fit w (words-fit 4 bs u (omega arith))), omega (arith, ap (λ n. 256 ^ n) dl)),
-    )
+    let short : n < 2 ^ 32 = omega (arith, ap (λ n. 256 ^ n) dl) in
+    let made : make-key ws n ≡ k = cc in
+    let fits = words-fit 4 bs u (omega arith) in
+    let p = mod-eq-of-lt (fits .0) in
+    let q = mod-eq-of-lt (fits .1 .0) in
+    let r = mod-eq-of-lt (fits .1 .1 .0) in
+    let s = mod-eq-of-lt (fits .1 .1 .1 .0) in
+    let w : key-words (make-key ws n) ≡ ws = cc in
+    let c : n % 2 ^ 32 ≡ n = mod-eq-of-lt short in
+    let e = words-only 4 bs u (omega arith) in
+    let f : big-endian 4 n ≡ drop 32 bs = ap (λ k. big-endian k n) (sym dl) ∙ big-endian-number (drop 32 bs) ud in
+    sym e ∙ (ap (λ xs. joined (big-endian 8) ws ++ xs) (sym f) ∙ (ap (λ vs. joined (big-endian 8) vs ++ big-endian 4 n) (sym w) ∙ (ap (λ m. joined (big-endian 8) (key-words (make-key ws n)) ++ big-endian 4 m) (sym c) ∙ ap key-bytes made)))
 only-from bs k false t u h = let z : _≡_ {A = ℕ} 0 1 = cc in absurd (omega arith)
 
-pub only : (bs : List ℕ) (k : Key) → Under 256 bs → read-key bs ≡ Some k → (bs ≡ key-bytes k) × Key-fits k
+pub only : (bs : List ℕ) (k : Key) → Under 256 bs → read-key bs ≡ Some k → bs ≡ key-bytes k
 only bs k u h = only-from bs k (eqb (length bs) key-size) refl u h
-
--- keys of equal words and equal counts are one key
-pub same-parts : (j k : Key) → j .words ≡ k .words → j .count ≡ k .count → j ≡ k
-same-parts j k w c =
-    let with-words : List ℕ → Key = λ ws. record { words = ws; count = j .count } in
-    let with-count : ℕ → Key = λ n. record { words = k .words; count = n } in
-    ap with-words w ∙ ap with-count c
 
 -- the test of two keys decides whether they are equal
 pub same-key-decides : (j k : Key) → Decides (same-key j k) (j ≡ k)
 same-key-decides j k =
-    let d = decides-and _ _ (sameBytes-decides (j .words) (k .words)) (decides-eqb (j .count) (k .count)) in
-    (λ t. same-parts j k (d .0 t .0) (d .0 t .1), λ e. d .1 (ap (λ (x : Key). x .words) e, ap (λ (x : Key). x .count) e))
+    let d = decides-and _ _ (sameBytes-decides (key-words j) (key-words k)) (decides-eqb (j .count) (k .count)) in
+    (λ t. same-parts j k (d .0 t .0) (d .0 t .1), λ e. d .1 (ap key-words e, ap (λ (x : Key). x .count) e))
 
 -- one word more is written behind those before it
 pub write-more : (ws xs ys out : List ℕ) (i : ℕ) → i < length ws → ys ≡ joined (big-endian 8) (take i ws) ++ drop (8 * i) xs → out ≡ paste ys (8 * i) (big-endian 8 (getD ws i 0)) 8 → out ≡ joined (big-endian 8) (take (i + 1) ws) ++ drop (8 * (i + 1)) xs

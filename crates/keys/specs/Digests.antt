@@ -1,15 +1,15 @@
-use mathlib.Core.Path.{_≡_}
 use mathlib.Core.List.{List, [], _∷_}
 use mathlib.Core.Bool.{cond}
-use Prim.Native.Nat.{ℕ, _+_, _*_, _%_, _^_, _<_}
+use Prim.Native.Nat.{ℕ, _+_, _*_, _%_, _^_}
 use lib.Bits.{bitXor}
 use lib.Dec.{leb}
 use lib.ListN.{length}
 use Rattle.std.specs.Iters.{folded}
-use Rattle.std.specs.shelf.Lists.{sum, All}
+use Rattle.std.specs.shelf.Lists.{sum}
 use Rattle.std.specs.declared.option.Option.{Option}
 use Rattle.std.specs.declared.option.Option.the-variants.{Some, None}
 use Rattle.keys.specs.declared.key.Key.{Key}
+use Rattle.keys.specs.Keys.{make-key}
 
 -- an answer for a string of at most so many bytes, absent for a longer one
 abbrev pub within : {X : Type 0} → ℕ → List ℕ → X → Option X
@@ -17,7 +17,7 @@ within most bs x = cond (leb (length bs) most) (Some x) None
 
 -- the key of a byte string under a digest: the digest's words and the byte count
 abbrev pub key-of : ℕ → (List ℕ → List ℕ) → List ℕ → Option Key
-key-of most words bs = within most bs (record { words = words bs; count = length bs })
+key-of most words bs = within most bs (make-key (words bs) (length bs))
 
 -- one byte more under FNV-1a: XOR, then multiply
 abbrev pub fnv1a-step : ℕ → ℕ → ℕ

@@ -3,10 +3,7 @@
 ghost use mathlib.Core.Path.{_≡_};
 ghost use mathlib.Core.List.{List};
 ghost use Prim.Native.Nat.{ℕ, _≤_};
-ghost use lib.ListN.{length};
-ghost use Rattle.std.specs.shelf.Digits.{Under};
 ghost use Rattle.keys.specs.Digests.{within, key-of};
-ghost use Rattle.keys.specs.Keys.{Four-words};
 use crate::key::Key;
 
 /// A digest: a function from byte strings up to a longest one to four words of 64 bits.
@@ -17,14 +14,11 @@ pub trait Digest {
     // the most bytes that the digest takes
     ghost most: { ℕ };
 
-    // the digest of each byte string, as a function of the type
+    // the digest of each byte string, four words as a function of the type
     ghost words: { List ℕ → List ℕ };
 
     // each value of a store, of up to 2,048 bytes, has a digest
     law long: { 2048 ≤ most };
-
-    // a digest is four words of 64 bits
-    law four: { (bs : List ℕ) → Under 256 bs → length bs ≤ most → Four-words (words bs) };
 
     /// The constant `LONGEST`, which no contract can name.
     fn most_bytes() -> u32

@@ -13,7 +13,7 @@ pub use self::digest::key_of;
 pub use self::fnv1a::Fnv1a;
 pub use self::fnv1a::Fnv1aDigest;
 pub use self::key::Key;
-pub use self::key::KeyPartialEq;
+pub use self::key::texts::KeyPartialEq;
 pub use self::tally::Tally;
 pub use self::tally::TallyDigest;
 

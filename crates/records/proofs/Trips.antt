@@ -11,7 +11,7 @@ use Rattle.std.specs.shelf.Digits.{Under}
 use Rattle.std.specs.shelf.Lists.{All}
 use Rattle.std.proofs.shelf.Lists.{append-nil, nil-from-length}
 use Rattle.std.proofs.shelf.Tests.{eqb-true}
-use Rattle.keys.specs.Keys.{key-bytes, read-key, Key-fits}
+use Rattle.keys.specs.Keys.{key-bytes, read-key}
 use Rattle.keys.specs.declared.key.Key.{Key}
 use Rattle.keys.proofs.Trips as keys-trip
 use Rattle.records.specs.declared.kind.Kind.{Kind}
@@ -50,17 +50,15 @@ alone-only kind bs body h =
     let a = alone-some (s .0) body (s .2) in
     o .0 ∙ (ap (λ xs. record-bytes kind (s .0 .part) ++ xs) (a .0) ∙ (append-nil (record-bytes kind (s .0 .part)) ∙ ap (record-bytes kind) (a .1)))
 
-pub back : (k : Key) → Key-fits k → read-result (result-bytes k) ≡ Some k
-back k fits =
-    let l = keys-trip.length-key-bytes k fits in
+pub back : (k : Key) → read-result (result-bytes k) ≡ Some k
+back k =
     let e : split-record Result (result-bytes k) ≡ Some (record { part = key-bytes k; rest = [] }) =
-    ap (split-record Result) (sym (append-nil (result-bytes k))) ∙ split-back Result (key-bytes k) [] l in
-    ap (λ o. and-then (and-then o alone) read-key) e ∙ keys-trip.back k fits
+    ap (split-record Result) (sym (append-nil (result-bytes k))) ∙ split-back Result (key-bytes k) [] (keys-trip.length-key-bytes k) in
+    ap (λ o. and-then (and-then o alone) read-key) e ∙ keys-trip.back k
 
-pub only : (bs : List ℕ) (k : Key) → Under 256 bs → read-result bs ≡ Some k → (bs ≡ result-bytes k) × Key-fits k
+pub only : (bs : List ℕ) (k : Key) → Under 256 bs → read-result bs ≡ Some k → bs ≡ result-bytes k
 only bs k u h =
     let p = then-some (and-then (split-record Result bs) alone) read-key k h in
     let e = alone-only Result bs (p .0) (p .1) in
     let Bytes : List ℕ → Type 0 = λ xs. Under 256 xs in
-    let o = keys-trip.only (p .0) k (subst Bytes e u .1) (p .2) in
-    (e ∙ ap (record-bytes Result) (o .0), o .1)
+    e ∙ ap (record-bytes Result) (keys-trip.only (p .0) k (subst Bytes e u .1) (p .2))

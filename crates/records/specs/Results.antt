@@ -6,7 +6,7 @@ use lib.ListN.{length, drop}
 use Rattle.std.specs.declared.option.Option.{Option}
 use Rattle.std.specs.declared.option.Option.the-variants.{Some, None}
 use Rattle.std.specs.shelf.Digits.{Under}
-use Rattle.keys.specs.Keys.{key-bytes, read-key, Key-fits}
+use Rattle.keys.specs.Keys.{key-bytes, read-key}
 use Rattle.keys.specs.declared.key.Key.{Key}
 use Rattle.records.specs.declared.kind.Kind.the-variants.{Result}
 use Rattle.records.specs.Records.{record-bytes, record-size, split-record, and-then, alone, fits-at}
@@ -34,5 +34,5 @@ front-size bytes buffer = cond (fits-at (length bytes) 0 buffer) (Some (length b
 -- a result record reads back as its key, and bytes that read as a key are that key's result record
 abbrev pub Results-round-trip : Type 0
 Results-round-trip =
-    ((k : Key) → Key-fits k → read-result (result-bytes k) ≡ Some k)
-    × ((bs : List ℕ) (k : Key) → Under 256 bs → read-result bs ≡ Some k → (bs ≡ result-bytes k) × Key-fits k)
+    ((k : Key) → read-result (result-bytes k) ≡ Some k)
+    × ((bs : List ℕ) (k : Key) → Under 256 bs → read-result bs ≡ Some k → bs ≡ result-bytes k)

@@ -15,10 +15,10 @@ returns-then-not-is-letter c =
     let ws = c .args .arguments .now in
     let ks = c .args .inputs .now in
     elim (c .then-not-is-letter .came) [
-      then-not-is-letter·by·then-not-is-letter w ↦ no-letter l ws ks (sym (w .if-not-is-letter .ensures tt))
-    | then-not-is-letter·by·else-not-is-letter·then-arguments-gt2 w ↦ many-arguments l ws ks (w .if-arguments-gt2 .taken)
-    | then-not-is-letter·by·else-not-is-letter·else-arguments-gt2·then-is-empty w ↦ no-input l ws ks (eqb-true (length ks) 0 (sym (w .if-is-empty .ensures tt)))
-    | then-not-is-letter·by·else-not-is-letter·else-arguments-gt2·else-is-empty·then-inputs-gt4 w ↦ many-inputs l ws ks (w .if-inputs-gt4 .taken)
+      | then-not-is-letter·by·then-not-is-letter w ↦ no-letter l ws ks (sym (w .if-not-is-letter .ensures tt))
+      | then-not-is-letter·by·else-not-is-letter·then-arguments-gt2 w ↦ many-arguments l ws ks (w .if-arguments-gt2 .taken)
+      | then-not-is-letter·by·else-not-is-letter·else-arguments-gt2·then-is-empty w ↦ no-input l ws ks (eqb-true (length ks) 0 (sym (w .if-is-empty .ensures tt)))
+      | then-not-is-letter·by·else-not-is-letter·else-arguments-gt2·else-is-empty·then-inputs-gt4 w ↦ many-inputs l ws ks (w .if-inputs-gt4 .taken)
     ]
 
 pub returns : need.returns

@@ -1,9 +1,6 @@
 use mathlib.Core.Path.{sym, ap}
-use mathlib.Core.List.{[]}
 use native.Mathlib.Omega.{arith}
-use lib.ListN.{getD}
 use Rattle.std.specs.declared.option.Option.the-variants.{Some, None}
-use Rattle.std.proofs.shelf.Lists.{getD-default}
 use Rattle.records.specs.declared.kind.Kind.the-variants.{Input}
 use Rattle.records.specs.Records.{record-bytes}
 use Rattle.actions.specs.Actions.{input-record}
@@ -15,15 +12,20 @@ loop-key-holds c = put-none input-record 37 (c .args .inputs .now) (c .args .int
 
 pub loop-key-again : need.loop-key-again
 loop-key-again c =
-    put-more input-record (c .args .inputs .now) (c .loop-key .key-index) (getD (c .args .inputs .now) (c .loop-key .key-index) (record { words = []; count = 0 })) (c .args .into .now) (c .loop-key .into) (c .put-record .last .into) (c .args .at) (c .loop-key .place) Input (c .to-bytes .result) (Some (c .in-Continue-place .place))
-    (omega arith) (getD-default (c .args .inputs .now) (c .loop-key .key-index) _ _ (omega arith)) (ap (record-bytes Input) (sym (c .to-bytes .ensures))) (omega arith) (c .pre) (c .loop-key .inv) (c .in-Continue-place .ensures tt .answer) (c .in-Continue-place .ensures tt .after)
+    put-more input-record (c .args .inputs .now) (c .loop-key .key-index) (c .key-item .result) (c .args .into .now) (c .loop-key .into) (c .put-record .last .into)
+    (c .args .at) (c .loop-key .place) Input (c .to-bytes .result) (Some (c .in-Continue-place .place)) (omega arith) (c .key-item .is)
+    (ap (record-bytes Input) (sym (c .to-bytes .ensures))) (omega arith) (c .pre) (c .loop-key .inv)
+    (c .in-Continue-place .ensures tt .answer) (c .in-Continue-place .ensures tt .after)
 
 pub returns-in-Break-place : need.returns-in-Break-place
 returns-in-Break-place c =
     absurd (put-refused input-record 37 _ (c .args .into .now) (c .put-record .last .into) (c .args .at)
-    (put-more input-record (c .args .inputs .now) (c .loop-key .key-index) (getD (c .args .inputs .now) (c .loop-key .key-index) (record { words = []; count = 0 })) (c .args .into .now) (c .loop-key .into) (c .put-record .last .into) (c .args .at) (c .loop-key .place) Input (c .to-bytes .result) None
-    (omega arith) (getD-default (c .args .inputs .now) (c .loop-key .key-index) _ _ (omega arith)) (ap (record-bytes Input) (sym (c .to-bytes .ensures))) (omega arith) (c .pre) (c .loop-key .inv) (c .in-Break-place .ensures tt .answer) (c .in-Break-place .ensures tt .after)))
+    (put-more input-record (c .args .inputs .now) (c .loop-key .key-index) (c .key-item .result) (c .args .into .now) (c .loop-key .into) (c .put-record .last .into)
+    (c .args .at) (c .loop-key .place) Input (c .to-bytes .result) None (omega arith) (c .key-item .is)
+    (ap (record-bytes Input) (sym (c .to-bytes .ensures))) (omega arith) (c .pre) (c .loop-key .inv)
+    (c .in-Break-place .ensures tt .answer) (c .in-Break-place .ensures tt .after)))
 
 pub returns : need.returns
 returns c =
-    put-all input-record 37 (c .args .inputs .now) (c .loop-key .key-index) (c .args .into .now) (c .loop-key .into) (c .args .at) (Some (c .loop-key .place)) (omega arith) (c .loop-key .inv)
+    put-all input-record 37 (c .args .inputs .now) (c .loop-key .key-index) (c .args .into .now) (c .loop-key .into) (c .args .at)
+    (Some (c .loop-key .place)) (omega arith) (c .loop-key .inv)
