@@ -1,0 +1,4 @@
+pub mod Runs
+pub mod Tops
+pub mod Trips
+pub mod Puts
