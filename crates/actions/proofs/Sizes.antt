@@ -10,7 +10,7 @@ use Rattle.std.specs.Joined.{joined}
 use Rattle.std.specs.declared.option.Option.{Option}
 use Rattle.std.specs.declared.option.Option.the-variants.{Some, None}
 use Rattle.std.proofs.shelf.Edits.{paste-paste, paste-all}
-use Rattle.std.proofs.shelf.Lists.{length-append, length-replicate, append-assoc}
+use Rattle.std.proofs.shelf.Lists.{length-append, length-replicate, append-assoc, take-at}
 use Rattle.std.proofs.shelf.Tests.{and-parts, leb-true, lt-leb, le-leb}
 use Rattle.keys.specs.Keys.{key-bytes}
 use Rattle.keys.specs.declared.key.Key.{Key}
@@ -87,3 +87,19 @@ assembled d s t u v b1 b2 b3 out k m n o ek em en eo h1 h2 h3 h4 =
 pub joined-map : {X : Type 0} (f : List ℕ → List ℕ) (g : X → List ℕ) (xs : List X) → joined (λ x. f (g x)) xs ≡ joined f (map g xs)
 joined-map f g [] = refl
 joined-map f g (x ∷ xs) = ap (λ zs. f (g x) ++ zs) (joined-map f g xs)
+
+-- a text that fits is written whole
+pub fits-front : (bytes buffer out : List ℕ) (size : ℕ) → length bytes ≤ length buffer → Some size ≡ front-size bytes buffer → out ≡ with-front bytes buffer → (size ≡ length bytes) × (take size out ≡ bytes)
+fits-front bytes buffer out size h er eo =
+    let t : leb (0 + length bytes) (length buffer) ≡ true = le-leb (0 + length bytes) (length buffer) (omega arith) in
+    let s : _≡_ {A = Option ℕ} (Some size) (Some (length bytes)) = er ∙ ap (λ b. cond b (Some (length bytes)) None) t in
+    let n : size ≡ length bytes = cc in
+    let e : out ≡ bytes ++ drop (length bytes) buffer = eo ∙ ap (λ b. cond b (bytes ++ drop (length bytes) buffer) buffer) t in
+    (n, ap (λ k. take k out) n ∙ (ap (take (length bytes)) e ∙ take-at bytes (drop (length bytes) buffer) (length bytes) refl))
+
+pub never-refused : (bytes buffer : List ℕ) → length bytes ≤ length buffer → None ≡ front-size bytes buffer → ⊥
+never-refused bytes buffer h er =
+    let t : leb (0 + length bytes) (length buffer) ≡ true = le-leb (0 + length bytes) (length buffer) (omega arith) in
+    let s : _≡_ {A = Option ℕ} None (Some (length bytes)) = er ∙ ap (λ b. cond b (Some (length bytes)) None) t in
+    let z : _≡_ {A = ℕ} 0 1 = cc in
+    omega arith

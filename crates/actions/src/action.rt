@@ -7,6 +7,7 @@ ghost use Rattle.actions.specs.Words.{is-letter};
 use crate::argument::Argument;
 use keys::Key;
 
+pub mod keyed;
 pub mod reading;
 pub mod texts;
 

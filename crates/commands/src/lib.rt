@@ -2,11 +2,13 @@
 
 ghost use mathlib.Core.Path.{_≡_};
 ghost use mathlib.Core.List.{map, [], _∷_};
+ghost use Prim.Native.Nat.{_≤_};
+ghost use lib.ListN.{length};
 ghost use denote.Ref.{now as behind};
 ghost use Rattle.std.specs.Of.String.{string-bytes};
 ghost use Rattle.std.specs.Options.{mapped, Cases};
 ghost use Rattle.std.specs.shelf.Text.{sameBytes};
-ghost use Rattle.commands.specs.Reading.{reading, is-option, first-option, read-files, read-digest, read-key, read-command};
+ghost use Rattle.commands.specs.Reading.{reading, is-option, first-option, read-files, read-digest, read-key, from-place, read-action, read-command};
 
 /// A digest, by the name that the option `--digest` gives it.
 #[derive(Clone, Copy)]
@@ -23,6 +25,11 @@ pub enum Command<'a> {
         digest: DigestName,
         files: &'a [String],
     },
+    Action {
+        letter: &'a str,
+        arguments: &'a [String],
+        inputs: &'a [String],
+    },
 }
 
 /// What is wrong with a command line.
@@ -34,6 +41,8 @@ pub enum Misuse<'a> {
     UnknownDigest(&'a str),
     StrayOption(&'a str),
     NoFile,
+    NoLetter,
+    NoFrom,
 }
 
 /// Whether a word is a certain text.
@@ -118,6 +127,37 @@ fn read_key(words: &[String]) -> Result<Command<'_>, Misuse<'_>>
     }
 }
 
+/// How many words stand before the first `from`.
+fn from_place(words: &[String]) -> usize
+    ensures value { λ r. ⌜ r ≡ from-place (map string-bytes (now (words .entry))) ⌝ }
+    ensures within { λ r. ⌜ r ≤ length (now (words .entry)) ⌝ }
+{
+    for (i, word) in words.iter().enumerate() {
+        if is(word.as_str(), "from") {
+            return i;
+        }
+    }
+    words.len()
+}
+
+/// The words behind `action`: a letter, arguments up to the first `from`, and keys.
+fn read_action(words: &[String]) -> Result<Command<'_>, Misuse<'_>>
+    ensures { λ r. ⌜ reading r ≡ read-action (map string-bytes (now (words .entry))) ⌝ }
+{
+    let Some((letter, rest)) = split_first(words) else {
+        return Err(Misuse::NoLetter);
+    };
+    let place = from_place(rest);
+    if place >= rest.len() {
+        return Err(Misuse::NoFrom);
+    }
+    Ok(Command::Action {
+        letter,
+        arguments: &rest[0..place],
+        inputs: &rest[place + 1..],
+    })
+}
+
 /// The command that the words behind the program's name ask for.
 pub fn read_command(words: &[String]) -> Result<Command<'_>, Misuse<'_>>
     ensures { λ r. ⌜ reading r ≡ read-command (map string-bytes (now (words .entry))) ⌝ }
@@ -129,6 +169,8 @@ pub fn read_command(words: &[String]) -> Result<Command<'_>, Misuse<'_>>
         Ok(Command::Help)
     } else if is(name, "key") {
         read_key(rest)
+    } else if is(name, "action") {
+        read_action(rest)
     } else {
         Err(Misuse::UnknownCommand(name))
     }

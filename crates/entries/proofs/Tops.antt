@@ -65,8 +65,7 @@ head-only bs s u h =
     let whole : body ≡ head-body (y .0) n = sym (take-append-drop key-size body) ∙ (ap (λ xs. xs ++ drop key-size body) key ∙ ap (λ xs. key-bytes (y .0) ++ xs) num) in
     let ek : y .0 ≡ s .part .key = ap (λ (a : Split Head). a .part .key) (f .1) in
     let en : n ≡ s .part .size = ap (λ (a : Split Head). a .part .size) (f .1) in
-    let er : rest ≡ s .rest = ap (λ (a : Split Head). a .rest) (f .1) in
-    (
+    let er : rest ≡ s .rest = ap (λ (a : Split Head). a .rest) (f .1) in (
       o .0 ∙ (ap (λ xs. record-bytes LogHead xs ++ rest) whole ∙ (ap (λ k. head-bytes k n ++ rest) ek ∙ (ap (λ m. head-bytes (s .part .key) m ++ rest) en ∙ ap (λ xs. head-bytes (s .part .key) (s .part .size) ++ xs) er))),
       omega (arith, f .0, en),
     )

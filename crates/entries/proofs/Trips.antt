@@ -58,8 +58,7 @@ only bs e u w =
     let ep : y .0 .part ≡ padded (e .part .value) = sym (p .0) ∙ ap padded ev in
     let made : ℕ → List ℕ → List ℕ → List ℕ = λ m q r. blocks (block-count m) q ++ r in
     let tail : x .0 .rest ≡ made (length (e .part .value)) (padded (e .part .value)) (e .rest) =
-    run .0 ∙ (ap (λ m. made m (y .0 .part) (y .0 .rest)) el ∙ (ap (λ q. made (length (e .part .value)) q (y .0 .rest)) ep ∙ ap (made (length (e .part .value)) (padded (e .part .value))) er)) in
-    (
+    run .0 ∙ (ap (λ m. made m (y .0 .part) (y .0 .rest)) el ∙ (ap (λ q. made (length (e .part .value)) q (y .0 .rest)) ep ∙ ap (made (length (e .part .value)) (padded (e .part .value))) er)) in (
       top .0 ∙ (ap (λ k. head-bytes k n ++ x .0 .rest) ek ∙ (ap (λ m. head-bytes (e .part .key) m ++ x .0 .rest) el ∙ (ap (λ xs. head-bytes (e .part .key) (length (e .part .value)) ++ xs) tail
           ∙ sym (append-assoc (head-bytes (e .part .key) (length (e .part .value))) (blocks (block-count (length (e .part .value))) (padded (e .part .value))) (e .rest))))),
       omega (arith, top .1, el),

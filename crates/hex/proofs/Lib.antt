@@ -1,1 +1,2 @@
 pub mod More
+pub mod Back

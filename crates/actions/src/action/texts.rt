@@ -23,6 +23,9 @@ fn is_letter(b: u8) -> bool
 }
 
 impl Action {
+    /// The size of the longest action text.
+    pub const LONGEST: usize = 187;
+
     /// The action of these parts; absent unless they are a letter A to Z, up to 2 arguments and 1 to 4 inputs.
     pub fn new(letter: u8, arguments: &[Argument], inputs: &[Key]) -> Option<Action>
         ensures { λ r. ⌜ mapped act-of r ≡ make-action letter (map argument-bytes (now (arguments .entry))) (now (inputs .entry)) ⌝ }
