@@ -50,6 +50,23 @@ expect 1 'folder: ' key folder
 expect 1 '  8  good.txt' key folder missing.txt good.txt
 expect 1 'longer.bin: too long' key --digest tally longer.bin
 expect 1 '/dev/zero: too long' key /dev/zero
+key=af63dc4c8601ec8c00000000000000000000000000000000000000000000000000000001
+expect 0 'text 015503af63dc4c8601ec8c' action U from $key
+expect 0 'key 690ff57c130fa9ec' action U from $key
+expect 0 'text 014b02046761696e' action K gain from $key $key
+expect 0 'text 014b020566726f6d30' action K from0 from $key
+expect 1 'wants a letter' action
+expect 1 "wants 'from'" action U $key
+expect 1 '1 to 4 keys' action U from
+expect 1 '1 to 4 keys' action U from $key $key $key $key $key
+expect 1 'A to Z' action u from $key
+expect 1 'A to Z' action UU from $key
+expect 1 'up to 2 arguments' action K a b c from $key
+expect 1 "'seventeen_bytes_n' is no argument" action K seventeen_bytes_n from $key
+expect 1 'is no argument' action K 'a b' from $key
+expect 1 'is no key' action U from ${key}0
+expect 1 'is no key' action U from ${key^^}
+expect 1 'is no key' action U from ''
 if [ "$(id -u)" != 0 ]; then
   chmod 000 empty.txt
   expect 1 'empty.txt: ' key empty.txt
