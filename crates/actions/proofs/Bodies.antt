@@ -9,7 +9,8 @@ use Rattle.std.specs.declared.option.Option.{Option}
 use Rattle.std.specs.declared.option.Option.the-variants.{Some, None}
 use Rattle.std.proofs.shelf.Lists.{drop-drop, take-rest}
 use Rattle.std.proofs.shelf.Tests.{and-from, and-left, and-right, le-leb, lt-leb, both-ways}
-use Rattle.actions.specs.Words.{each, is-argument, read-argument-body}
+use Rattle.lists.specs.Each.{each}
+use Rattle.actions.specs.Words.{is-argument, read-argument-body}
 
 -- a conditional answer that is absent, or there
 pub none-means : {X : Type 0} (b : Bool) (x : X) → None ≡ cond b (Some x) None → b ≡ false

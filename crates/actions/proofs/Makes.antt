@@ -10,7 +10,8 @@ use Rattle.std.specs.declared.option.Option.the-variants.{Some, None}
 use Rattle.std.proofs.shelf.Lists.{take-at, length-map}
 use Rattle.std.proofs.shelf.Tests.{and-from, and-left, and-right, le-leb, lt-leb}
 use Rattle.keys.specs.declared.key.Key.{Key}
-use Rattle.actions.specs.Words.{each, is-letter, is-argument}
+use Rattle.lists.specs.Each.{each}
+use Rattle.actions.specs.Words.{is-letter, is-argument}
 use Rattle.actions.specs.Actions.{Act, is-action, make-action}
 use Rattle.actions.specs.Views.{argument-bytes}
 use Rattle.actions.specs.declared.argument.Argument.{Argument}

@@ -16,7 +16,8 @@ use Rattle.keys.specs.Keys.{key-bytes}
 use Rattle.keys.specs.declared.key.Key.{Key}
 use Rattle.keys.proofs.Trips.{length-key-bytes}
 use Rattle.records.specs.Results.{front-size, with-front}
-use Rattle.actions.specs.Words.{each, is-letter, is-argument, argument-body}
+use Rattle.lists.specs.Each.{each}
+use Rattle.actions.specs.Words.{is-letter, is-argument, argument-body}
 use Rattle.actions.specs.Actions.{Act, is-action, action-text, action-size, operation-record, argument-record, input-record}
 use Rattle.actions.proofs.Tests.{argument-parts}
 

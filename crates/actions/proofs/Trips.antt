@@ -21,22 +21,14 @@ use Rattle.records.specs.declared.kind.Kind.the-variants.{End, Operation, Argum
 use Rattle.records.specs.Records.{Split, kind-number, body-length, record-size, record-bytes, begins-record, split-record, and-then, alone}
 use Rattle.records.proofs.Fronts.{split-back, split-only}
 use Rattle.records.proofs.Trips.{then-some, alone-only, alone-some, under-left, under-right}
-use Rattle.actions.specs.Words.{each, is-letter, is-argument, argument-body, read-argument-body}
+use Rattle.lists.specs.Each.{each}
+use Rattle.lists.proofs.Tests.{zeros-zero, zeros-only}
+use Rattle.actions.specs.Words.{is-letter, is-argument, argument-body, read-argument-body}
 use Rattle.actions.specs.Actions.{Act, is-action, make-action, action-text, action-size, operation-record, argument-record, input-record, read-record, before, several, read-letter, read-argument, read-input, read-inputs, read-arguments, read-action}
 use Rattle.actions.proofs.Bodies.{some-means}
 use Rattle.actions.proofs.Scans.{mapped-some, several-none, several-some}
 use Rattle.actions.proofs.Sizes.{length-argument-body, length-text}
 use Rattle.actions.proofs.Tests.{argument-parts}
-
-each-zero : (n : ℕ) → each (eqb 0) (replicate n 0) ≡ true
-each-zero zero = refl
-each-zero (suc n) = each-zero n
-
-zeros-from : (bs : List ℕ) → each (eqb 0) bs ≡ true → bs ≡ replicate (length bs) 0
-zeros-from [] t = refl
-zeros-from (b ∷ bs) t =
-    let p = and-parts (eqb 0 b) (each (eqb 0) bs) t in
-    ap (λ x. x ∷ bs) (sym (eqb-true 0 b (p .0))) ∙ ap (λ xs. 0 ∷ xs) (zeros-from bs (p .1))
 
 -- an argument reads back from the body of its record, and the body is its own
 body-back : (w : List ℕ) → is-argument w ≡ true → read-argument-body (argument-body w) ≡ Some w
@@ -47,7 +39,7 @@ body-back w t =
     let q = drop-at w pad (length w) refl in
     let test : (leb (length w) (length (w ++ pad)) && (is-argument (take (length w) (w ++ pad)) && each (eqb 0) (drop (length w) (w ++ pad)))) ≡ true =
     and-from (leb (length w) (length (w ++ pad))) _ (le-leb (length w) (length (w ++ pad)) (omega arith))
-    (and-from _ _ (ap is-argument p ∙ t) (ap (each (eqb 0)) q ∙ each-zero (16 - length w))) in
+    (and-from _ _ (ap is-argument p ∙ t) (ap (each (eqb 0)) q ∙ zeros-zero (16 - length w))) in
     ap (λ b. cond b (Some (take (length w) (w ++ pad))) None) test ∙ ap Some p
 
 body-only-from : (n : ℕ) (bs w : List ℕ) (b : Bool) → length bs ≡ 16 → b ≡ (leb n (length bs) && (is-argument (take n bs) && each (eqb 0) (drop n bs))) → cond b (Some (take n bs)) None ≡ Some w → n ∷ bs ≡ argument-body w
@@ -59,7 +51,7 @@ body-only-from n bs w true long t h =
     let ln : length w ≡ n = ap length (sym e) ∙ length-take-le n bs short in
     let ld = length-drop n bs in
     let lz : length (drop n bs) ≡ 16 - length w = omega arith in
-    let z : drop n bs ≡ replicate (16 - length w) 0 = zeros-from (drop n bs) (q .1) ∙ ap (λ k. replicate k 0) lz in
+    let z : drop n bs ≡ replicate (16 - length w) 0 = zeros-only (drop n bs) (q .1) ∙ ap (λ k. replicate k 0) lz in
     ap (λ k. k ∷ bs) (sym ln) ∙ ap (λ xs. length w ∷ xs) (sym (take-append-drop n bs) ∙ (ap (λ xs. xs ++ drop n bs) e ∙ ap (λ xs. w ++ xs) z))
 body-only-from n bs w false long t h = let z : _≡_ {A = ℕ} 0 1 = cc in absurd (omega arith)
 

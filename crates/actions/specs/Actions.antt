@@ -15,7 +15,8 @@ use Rattle.keys.specs.declared.key.Key.{Key}
 use Rattle.records.specs.declared.kind.Kind.{Kind}
 use Rattle.records.specs.declared.kind.Kind.the-variants.{End, Operation, Argument, Input}
 use Rattle.records.specs.Records.{Split, record-bytes, record-size, split-record, and-then, alone}
-use Rattle.actions.specs.Words.{each, is-letter, is-argument, argument-body, read-argument-body}
+use Rattle.lists.specs.Each.{each}
+use Rattle.actions.specs.Words.{is-letter, is-argument, argument-body, read-argument-body}
 
 -- what a step does, and to which inputs: an operation, its arguments, the keys of its inputs in order
 pub record Act : Type 0 where

@@ -1,16 +1,12 @@
 use mathlib.Core.List.{List, [], _∷_, _++_}
-use mathlib.Core.Bool.{Bool, true, false, cond, _&&_}
+use mathlib.Core.Bool.{Bool, cond, _&&_}
 use Prim.Native.Nat.{ℕ, _-_}
-use lib.Dec.{eqb, leb}
+use lib.Dec.{leb}
 use lib.ListN.{length, take, drop, replicate}
 use Rattle.std.specs.declared.option.Option.{Option}
 use Rattle.std.specs.declared.option.Option.the-variants.{Some, None}
+use Rattle.lists.specs.Each.{each, all-zero}
 use Rattle.records.specs.Records.{argument-room}
-
--- whether a test holds of each element
-abbrev pub each : {X : Type 0} → (X → Bool) → List X → Bool
-each test [] = true
-each test (x ∷ xs) = test x && each test xs
 
 -- a byte that an argument may have: no space, no control, nothing beyond ASCII
 abbrev pub argument-byte : ℕ → Bool
@@ -28,7 +24,7 @@ argument-body w = length w ∷ w ++ replicate (argument-room - length w) 0
 abbrev pub read-argument-body : List ℕ → Option (List ℕ)
 read-argument-body [] = None
 read-argument-body (n ∷ bs) =
-    cond (leb n (length bs) && (is-argument (take n bs) && each (eqb 0) (drop n bs))) (Some (take n bs)) None
+    cond (leb n (length bs) && (is-argument (take n bs) && all-zero (drop n bs))) (Some (take n bs)) None
 
 -- the letter of an operation: A to Z
 abbrev pub is-letter : ℕ → Bool

@@ -14,7 +14,9 @@ use Rattle.std.proofs.shelf.Tests.{and-from, and-parts, eq-eqb, ne-eqb, eqb-tru
 use Rattle.records.specs.declared.kind.Kind.the-variants.{LogBlock}
 use Rattle.records.specs.Records.{Split, record-bytes, begins-record, split-record}
 use Rattle.records.proofs.Fronts.{begins-yes}
-use Rattle.entries.specs.Blocks.{block-count, zeros-to, exactly, padded, blocks, whole-blocks, joined-bodies, bodies, place, all-zero}
+use Rattle.lists.specs.Each.{all-zero}
+use Rattle.lists.proofs.Tests.{zeros-zero, zeros-only}
+use Rattle.entries.specs.Blocks.{block-count, zeros-to, exactly, padded, blocks, whole-blocks, joined-bodies, bodies, place}
 
 getD-zeros : (n i : ℕ) → _≡_ {A = ℕ} (getD (replicate n 0) i 0) 0
 getD-zeros n i =
@@ -202,19 +204,6 @@ split-blocks-from n bs s false t h = let z : _≡_ {A = ℕ} 0 1 = cc in absurd 
 pub split-blocks-only : (n : ℕ) (bs : List ℕ) (s : Split (List ℕ)) → bodies n bs ≡ Some s → (bs ≡ blocks n (s .part) ++ s .rest) × (length (s .part) ≡ n * 32)
 split-blocks-only n bs s h = split-blocks-from n bs s (whole-blocks n bs) refl h
 
--- zeros are all zero, and nothing else is
-pub zeros-zero : (n : ℕ) → all-zero (replicate n 0) ≡ true
-zeros-zero zero = refl
-zeros-zero (suc n) = zeros-zero n
-
-pub zeros-only : (bs : List ℕ) → all-zero bs ≡ true → bs ≡ replicate (length bs) 0
-zeros-only [] t = refl
-zeros-only (b ∷ bs) t =
-    let p = and-parts (eqb b 0) (all-zero bs) t in
-    let z = eqb-true b 0 (p .0) in
-    let r = zeros-only bs (p .1) in
-    cc
-
 -- a value padded, taken apart again
 pub take-padded : (v : List ℕ) → take (length v) (padded v) ≡ v
 take-padded v = take-at v _ (length v) refl
@@ -250,15 +239,6 @@ whole-some-from n bs s false t h = let z : _≡_ {A = ℕ} 0 1 = cc in absurd (o
 -- where one is split off, those behind it are left
 pub whole-some : (n m : ℕ) (bs : List ℕ) (s : Split (List ℕ)) → m ≡ suc n → Some s ≡ split-record LogBlock bs → whole-blocks m bs ≡ whole-blocks n (s .rest)
 whole-some n m bs s e h = ap (λ k. whole-blocks k bs) e ∙ whole-some-from n bs s (begins-record LogBlock bs) refl h
-
--- a zero is passed over, and any other byte shows
-pub zero-more : (bs : List ℕ) (i : ℕ) → i < length bs → getD bs i 0 ≡ 0 → all-zero (drop i bs) ≡ all-zero (drop (i + 1) bs)
-zero-more bs i h z =
-    ap all-zero (drop-more bs i 0 h) ∙ ap (λ b. b && all-zero (drop (i + 1) bs)) (eq-eqb (getD bs i 0) 0 z)
-
-pub zero-not : (bs : List ℕ) (i : ℕ) → i < length bs → (getD bs i 0 ≡ 0 → ⊥) → all-zero (drop i bs) ≡ false
-zero-not bs i h z =
-    ap all-zero (drop-more bs i 0 h) ∙ ap (λ b. b && all-zero (drop (i + 1) bs)) (ne-eqb (getD bs i 0) 0 z)
 
 -- one byte more of a value is filled in
 pub fill-step : (v xs : List ℕ) (i y : ℕ) → i < length xs → y ≡ getD v i 0 → ((k : ℕ) → k < i → getD xs k 0 ≡ getD v k 0) → (k : ℕ) → k < i + 1 → getD (set xs i y) k 0 ≡ getD v k 0

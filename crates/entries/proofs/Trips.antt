@@ -11,7 +11,8 @@ use Rattle.keys.specs.declared.key.Key.{Key}
 use Rattle.records.specs.declared.kind.Kind.the-variants.{LogHead}
 use Rattle.records.specs.Records.{Split, record-size, and-then}
 use Rattle.records.proofs.Trips.{then-some}
-use Rattle.entries.specs.Blocks.{block-count, entry-size, padded, exactly, blocks, whole-blocks, joined-bodies, bodies, all-zero}
+use Rattle.lists.specs.Each.{all-zero}
+use Rattle.entries.specs.Blocks.{block-count, entry-size, padded, exactly, blocks, whole-blocks, joined-bodies, bodies}
 use Rattle.entries.specs.Heads.{Head, head-bytes, read-head}
 use Rattle.entries.specs.Entries.{Logged, entry-bytes, unpadded, with-value, read-entry}
 use Rattle.entries.proofs.Runs.{length-padded, length-blocks, length-bodies, exactly-enough, whole-long, split-blocks-back, split-blocks-only, take-padded, drop-padded, padded-only}

@@ -1,7 +1,7 @@
 use mathlib.Core.List.{List, [], _∷_, _++_}
 use mathlib.Core.Bool.{Bool, true, cond, _&&_}
 use Prim.Native.Nat.{ℕ, zero, suc, _+_, _-_, _*_, _/_, _%_}
-use lib.Dec.{eqb, leb}
+use lib.Dec.{leb}
 use lib.ListN.{length, take, drop, replicate}
 use lib.Seq.{paste}
 use Rattle.std.specs.declared.option.Option.{Option}
@@ -69,8 +69,3 @@ bodies n bs =
 -- where the byte i of the joined bodies stands in the block records
 abbrev pub place : ℕ → ℕ
 place i = blocks-size (i / block-size) + (1 + i % block-size)
-
--- whether all bytes are 0
-abbrev pub all-zero : List ℕ → Bool
-all-zero [] = true
-all-zero (b ∷ bs) = eqb b 0 && all-zero bs

@@ -7,25 +7,9 @@ use lib.Dec.{eqb, leb, ltb}
 use lib.ListN.{length, take, drop, getD}
 use Rattle.std.specs.shelf.Digits.{Under}
 use Rattle.std.proofs.shelf.Bits.{div-below, mod-below, div-mul-add, mod-mul-add}
-use Rattle.std.proofs.shelf.Lists.{drop-more, drop-all}
 use Rattle.std.proofs.shelf.Tests.{and-from, and-parts, eq-eqb, eqb-true}
 use Rattle.std.proofs.shelf.Ways.{tells}
 use Rattle.hex.specs.Hex.{hex, hex-digit, is-digit, are-digits, digit-value, unhex, writes-bytes}
-
--- the test of each digit, at one that passes, at one that fails, and at the end
-pub digits-passed : (cs : List ℕ) (i : ℕ) → i < length cs → is-digit (getD cs i 0) ≡ true → are-digits cs ≡ are-digits (drop i cs) → are-digits cs ≡ are-digits (drop (i + 1) cs)
-digits-passed cs i h t inv = inv ∙ (ap are-digits (drop-more cs i 0 h) ∙ ap (λ b. b && are-digits (drop (i + 1) cs)) t)
-
-pub digits-failed : (cs : List ℕ) (i : ℕ) → i < length cs → is-digit (getD cs i 0) ≡ false → are-digits cs ≡ are-digits (drop i cs) → false ≡ are-digits cs
-digits-failed cs i h t inv = sym (inv ∙ (ap are-digits (drop-more cs i 0 h) ∙ ap (λ b. b && are-digits (drop (i + 1) cs)) t))
-
-pub digits-ended : (cs : List ℕ) (i : ℕ) → length cs ≤ i → are-digits cs ≡ are-digits (drop i cs) → true ≡ are-digits cs
-digits-ended cs i h inv = sym (inv ∙ ap are-digits (drop-all i cs h))
-
-pub digit-at : (cs : List ℕ) (i : ℕ) → i < length cs → are-digits cs ≡ true → is-digit (getD cs i 0) ≡ true
-digit-at [] i h t = absurd (omega arith)
-digit-at (c ∷ cs) zero h t = and-parts (is-digit c) (are-digits cs) t .0
-digit-at (c ∷ cs) (suc i) h t = digit-at cs i (omega arith) (and-parts (is-digit c) (are-digits cs) t .1)
 
 -- two digits more are one byte more
 pub unhex-more : (cs : List ℕ) (i : ℕ) → 2 * i + 1 < length cs → unhex (take (2 * (i + 1)) cs) ≡ unhex (take (2 * i) cs) ++ (digit-value (getD cs (2 * i) 0) * 16 + digit-value (getD cs (2 * i + 1) 0)) ∷ []

@@ -1,10 +1,11 @@
 use mathlib.Core.Path.{_≡_}
 use mathlib.Core.List.{List, [], _∷_}
-use mathlib.Core.Bool.{Bool, true, false, cond, _&&_, _||_}
+use mathlib.Core.Bool.{Bool, true, cond, _&&_, _||_}
 use Prim.Native.Nat.{ℕ, _+_, _-_, _*_, _/_, _%_}
 use lib.Dec.{eqb, leb, ltb}
 use lib.ListN.{length}
 use Rattle.std.specs.shelf.Digits.{Under}
+use Rattle.lists.specs.Each.{each}
 
 -- the digit 0 to 9 or a to f of a number below 16, as its code
 abbrev pub hex-digit : ℕ → ℕ
@@ -21,8 +22,7 @@ is-digit c = (leb 48 c && leb c 57) || (leb 97 c && leb c 102)
 
 -- whether each code is one
 abbrev pub are-digits : List ℕ → Bool
-are-digits [] = true
-are-digits (c ∷ cs) = is-digit c && are-digits cs
+are-digits cs = each is-digit cs
 
 -- the number of a digit
 abbrev pub digit-value : ℕ → ℕ

@@ -2,31 +2,19 @@
 
 ghost use mathlib.Core.Path.{_≡_};
 ghost use Prim.Native.Nat.{_≤_};
-ghost use lib.Dec.{eqb};
 ghost use lib.ListN.{length};
 ghost use Rattle.std.specs.Options.{mapped, isSome};
 ghost use Rattle.records.specs.Records.{and-then, alone, split-record};
 ghost use Rattle.records.specs.declared.kind.Kind.the-variants.{End};
 ghost use Rattle.actions.specs.Actions.{several, argument-most, part-in, read-argument, read-input, read-arguments, read-action, Actions-round-trip};
-ghost use Rattle.actions.specs.Words.{each, read-argument-body};
+ghost use Rattle.actions.specs.Words.{read-argument-body};
 ghost use Rattle.actions.specs.Views.{argument-bytes, act-of, arguments-read, inputs-read};
 use super::Action;
 use crate::argument::Argument;
 use keys::Key;
+use lists::are_zeros;
 use records::Kind;
 use records::split_record;
-
-/// Whether each byte is zero.
-fn are_zeros(bytes: &[u8]) -> bool
-    ensures { λ r. ⌜ r ≡ each (eqb 0) (now (bytes .entry)) ⌝ }
-{
-    for b in bytes {
-        if *b != 0 {
-            return false;
-        }
-    }
-    true
-}
 
 /// The argument in the body of an argument record.
 fn read_argument_body(body: &[u8]) -> Option<Argument>

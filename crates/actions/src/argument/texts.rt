@@ -4,7 +4,8 @@ ghost use mathlib.Core.Bool.{cond};
 ghost use mathlib.Core.Path.{_≡_};
 ghost use Rattle.std.specs.Options.{mapped};
 ghost use Rattle.std.specs.declared.option.Option.the-variants.{Some, None};
-ghost use Rattle.actions.specs.Words.{argument-byte, each, is-argument, argument-body, read-argument-body};
+ghost use Rattle.lists.specs.Each.{each};
+ghost use Rattle.actions.specs.Words.{argument-byte, is-argument, argument-body, read-argument-body};
 ghost use Rattle.actions.specs.Views.{argument-bytes};
 use super::Argument;
 

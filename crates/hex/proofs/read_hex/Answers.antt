@@ -6,17 +6,18 @@ use native.Mathlib.Omega.{arith}
 use lib.ListN.{length, take, getD}
 use Rattle.std.proofs.shelf.Lists.{take-all, take-more-set}
 use Rattle.std.proofs.shelf.Tests.{and-from, eq-eqb}
-use Rattle.hex.specs.Hex.{digit-value, unhex, writes-bytes}
-use Rattle.hex.proofs.Back.{digit-at, unhex-more}
+use Rattle.hex.specs.Hex.{is-digit, digit-value, unhex, writes-bytes}
+use Rattle.lists.proofs.Tests.{each-at}
+use Rattle.hex.proofs.Back.{unhex-more}
 use Rattle.hex.proofs.read_hex.Needs as need
 
 pub digit-value-requires : need.digit-value-requires
 digit-value-requires c κs =
-    digit-at (c .args .text .now) (2 * c .loop-i .i) (omega arith) (sym (c .if-not-are-digits .ensures tt))
+    each-at is-digit (c .args .text .now) (2 * c .loop-i .i) 0 (omega arith) (sym (c .if-not-are-digits .ensures tt))
 
 pub digit-value-requires-in-loop-i : need.digit-value-requires-in-loop-i
 digit-value-requires-in-loop-i c κs =
-    digit-at (c .args .text .now) (2 * c .loop-i .i + 1) (omega arith) (sym (c .if-not-are-digits .ensures tt))
+    each-at is-digit (c .args .text .now) (2 * c .loop-i .i + 1) 0 (omega arith) (sym (c .if-not-are-digits .ensures tt))
 
 pub loop-i-again : need.loop-i-again
 loop-i-again c =

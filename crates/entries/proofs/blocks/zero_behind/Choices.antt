@@ -1,6 +1,7 @@
 use mathlib.Core.Path.{_≡_}
 use lib.ListN.{drop}
-use Rattle.entries.specs.Blocks.{block-count, joined-bodies, all-zero}
+use Rattle.lists.specs.Each.{all-zero}
+use Rattle.entries.specs.Blocks.{block-count, joined-bodies}
 use Rattle.entries.proofs.blocks.zero_behind.Given as given
 
 -- the bytes up to i are zeros, so that all are where those from i on are

@@ -1,6 +1,7 @@
 use mathlib.Core.Path.{_≡_}
 use lib.ListN.{drop}
-use Rattle.actions.specs.Words.{argument-byte, each}
+use Rattle.lists.specs.Each.{each}
+use Rattle.actions.specs.Words.{argument-byte}
 use Rattle.actions.proofs.argument.texts.are_argument_bytes.Given as given
 
 -- the bytes passed are good
