@@ -16,7 +16,8 @@ use Rattle.records.specs.Records.{Split, record-bytes, begins-record, split-rec
 use Rattle.records.proofs.Fronts.{begins-yes}
 use Rattle.lists.specs.Each.{all-zero}
 use Rattle.lists.proofs.Tests.{zeros-zero, zeros-only}
-use Rattle.entries.specs.Blocks.{block-count, zeros-to, exactly, padded, blocks, whole-blocks, joined-bodies, bodies, place}
+use Rattle.lists.specs.Each.{zeros-to}
+use Rattle.entries.specs.Blocks.{block-count, exactly, padded, blocks, whole-blocks, joined-bodies, bodies, place}
 
 getD-zeros : (n i : ℕ) → _≡_ {A = ℕ} (getD (replicate n 0) i 0) 0
 getD-zeros n i =

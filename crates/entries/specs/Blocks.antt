@@ -2,16 +2,13 @@ use mathlib.Core.List.{List, [], _∷_, _++_}
 use mathlib.Core.Bool.{Bool, true, cond, _&&_}
 use Prim.Native.Nat.{ℕ, zero, suc, _+_, _-_, _*_, _/_, _%_}
 use lib.Dec.{leb}
-use lib.ListN.{length, take, drop, replicate}
+use lib.ListN.{length, take, drop}
 use lib.Seq.{paste}
 use Rattle.std.specs.declared.option.Option.{Option}
 use Rattle.std.specs.declared.option.Option.the-variants.{Some, None}
+use Rattle.lists.specs.Each.{zeros-to}
 use Rattle.records.specs.declared.kind.Kind.the-variants.{LogHead, LogBlock}
 use Rattle.records.specs.Records.{Split, block-size, record-size, record-bytes, begins-record}
-
--- the most bytes of a value
-abbrev pub value-room : ℕ
-value-room = 2048
 
 -- how many blocks a value of so many bytes fills
 abbrev pub block-count : ℕ → ℕ
@@ -24,10 +21,6 @@ blocks-size n = n * record-size LogBlock
 -- the size of the entry of a value of so many bytes
 abbrev pub entry-size : ℕ → ℕ
 entry-size n = record-size LogHead + blocks-size (block-count n)
-
--- some bytes, then zeros up to a length
-abbrev pub zeros-to : ℕ → List ℕ → List ℕ
-zeros-to n bs = bs ++ replicate (n - length bs) 0
 
 -- what a buffer holds once it is filled with some bytes and zeros behind them, where they fit
 abbrev pub filled : List ℕ → List ℕ → List ℕ

@@ -12,7 +12,8 @@ use Rattle.keys.specs.declared.key.Key.{Key}
 use Rattle.records.specs.Records.{Split, and-then}
 use Rattle.records.specs.Results.{with-front, front-size}
 use Rattle.lists.specs.Each.{all-zero}
-use Rattle.entries.specs.Blocks.{value-room, block-count, entry-size, padded, blocks, joined-bodies, bodies, exactly}
+use Rattle.keys.specs.Digests.{value-room}
+use Rattle.entries.specs.Blocks.{block-count, entry-size, padded, blocks, joined-bodies, bodies, exactly}
 use Rattle.entries.specs.Heads.{Head, head-bytes, read-head, key-in}
 use Rattle.entries.specs.declared.entry.Entry.{Entry}
 

@@ -12,7 +12,7 @@ use Rattle.keys.specs.Keys.{key-size, make-key, key-bytes, read-key}
 use Rattle.keys.specs.declared.key.Key.{Key}
 use Rattle.records.specs.declared.kind.Kind.the-variants.{LogHead}
 use Rattle.records.specs.Records.{Split, record-bytes, split-record, and-then}
-use Rattle.entries.specs.Blocks.{value-room}
+use Rattle.keys.specs.Digests.{value-room}
 
 -- the head of an entry: a key, and the length of the value
 pub record Head : Type 0 where

@@ -3,7 +3,7 @@
 ghost use mathlib.Core.Path.{_≡_};
 ghost use Prim.Native.Nat.{_≤_};
 ghost use Rattle.std.specs.Options.{mapped};
-ghost use Rattle.entries.specs.Blocks.{value-room};
+ghost use Rattle.keys.specs.Digests.{value-room};
 ghost use Rattle.entries.specs.Heads.{head-body, read-head, head-of};
 use crate::blocks::HEAD;
 use crate::blocks::VALUE_ROOM;

@@ -3,7 +3,8 @@
 ghost use mathlib.Core.Path.{_≡_};
 ghost use Prim.Native.Nat.{_≤_};
 ghost use lib.ListN.{length};
-ghost use Rattle.entries.specs.Blocks.{value-room, entry-size, with-blocks};
+ghost use Rattle.keys.specs.Digests.{value-room};
+ghost use Rattle.entries.specs.Blocks.{entry-size, with-blocks};
 ghost use Rattle.entries.specs.Entries.{entry-front, with-entry};
 use crate::blocks::BLOCK_RECORD;
 use crate::blocks::HEAD_RECORD;

@@ -11,6 +11,10 @@ use Rattle.std.specs.declared.option.Option.the-variants.{Some, None}
 use Rattle.keys.specs.declared.key.Key.{Key}
 use Rattle.keys.specs.Keys.{make-key}
 
+-- the most bytes of a value in a store; every digest takes so many
+abbrev pub value-room : ℕ
+value-room = 2048
+
 -- an answer for a string of at most so many bytes, absent for a longer one
 abbrev pub within : {X : Type 0} → ℕ → List ℕ → X → Option X
 within most bs x = cond (leb (length bs) most) (Some x) None

@@ -3,7 +3,7 @@
 ghost use mathlib.Core.Path.{_≡_};
 ghost use mathlib.Core.List.{List};
 ghost use Prim.Native.Nat.{ℕ, _≤_};
-ghost use Rattle.keys.specs.Digests.{within, key-of};
+ghost use Rattle.keys.specs.Digests.{value-room, within, key-of};
 use crate::key::Key;
 
 /// A digest: a function from byte strings up to a longest one to four words of 64 bits.
@@ -17,8 +17,8 @@ pub trait Digest {
     // the digest of each byte string, four words as a function of the type
     ghost words: { List ℕ → List ℕ };
 
-    // each value of a store, of up to 2,048 bytes, has a digest
-    law long: { 2048 ≤ most };
+    // each value of a store has a digest
+    law long: { value-room ≤ most };
 
     /// The constant `LONGEST`, which no contract can name.
     fn most_bytes() -> u32
