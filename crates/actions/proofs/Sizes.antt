@@ -18,7 +18,7 @@ use Rattle.keys.proofs.Trips.{length-key-bytes}
 use Rattle.records.specs.Results.{front-size, with-front}
 use Rattle.lists.specs.Each.{each}
 use Rattle.actions.specs.Words.{is-letter, is-argument, argument-body}
-use Rattle.actions.specs.Actions.{Act, is-action, action-text, action-size, operation-record, argument-record, input-record}
+use Rattle.actions.specs.Actions.{Act, is-action, action-text, action-size, operation-record, argument-record, input-record, argument-size, input-size}
 use Rattle.actions.proofs.Tests.{argument-parts}
 
 pub length-argument-body : (w : List ℕ) → length w ≤ 16 → length (argument-body w) ≡ 17
@@ -28,7 +28,7 @@ length-argument-body w short =
     omega arith
 
 -- the records of arguments, and those of inputs, one size to each
-pub length-arguments : (ws : List (List ℕ)) → each is-argument ws ≡ true → length (joined argument-record ws) ≡ length ws * 18
+pub length-arguments : (ws : List (List ℕ)) → each is-argument ws ≡ true → length (joined argument-record ws) ≡ length ws * argument-size
 length-arguments [] t = refl
 length-arguments (w ∷ ws) t =
     let p = and-parts (is-argument w) (each is-argument ws) t in
@@ -38,7 +38,7 @@ length-arguments (w ∷ ws) t =
     let r = length-arguments ws (p .1) in
     omega arith
 
-pub length-inputs : (ks : List Key) → length (joined input-record ks) ≡ length ks * 37
+pub length-inputs : (ks : List Key) → length (joined input-record ks) ≡ length ks * input-size
 length-inputs [] = refl
 length-inputs (k ∷ ks) =
     let b = length-key-bytes k in

@@ -24,7 +24,7 @@ use Rattle.records.proofs.Trips.{then-some, alone-only, alone-some, under-left,
 use Rattle.lists.specs.Each.{each}
 use Rattle.lists.proofs.Tests.{zeros-zero, zeros-only}
 use Rattle.actions.specs.Words.{is-letter, is-argument, argument-body, read-argument-body}
-use Rattle.actions.specs.Actions.{Act, is-action, make-action, action-text, action-size, operation-record, argument-record, input-record, read-record, before, several, read-letter, read-argument, read-input, read-inputs, read-arguments, read-action}
+use Rattle.actions.specs.Actions.{Act, is-action, make-action, action-text, action-size, operation-record, argument-record, input-record, read-record, before, several, read-letter, read-argument, read-input, read-inputs, read-arguments, read-action, longest-text}
 use Rattle.actions.proofs.Bodies.{some-means}
 use Rattle.actions.proofs.Scans.{mapped-some, several-none, several-some}
 use Rattle.actions.proofs.Sizes.{length-argument-body, length-text}
@@ -200,7 +200,7 @@ apart a b p q e =
     let s : _≡_ {A = Option Act} (Some a) (Some b) = sym (back a p) ∙ (ap read-action e ∙ back b q) in
     cc
 
-pub sizes : (a : Act) → is-action a ≡ true → (length (action-text a) ≡ action-size (length (a .arguments)) (length (a .inputs))) × (length (action-text a) ≤ 187)
+pub sizes : (a : Act) → is-action a ≡ true → (length (action-text a) ≡ action-size (length (a .arguments)) (length (a .inputs))) × (length (action-text a) ≤ longest-text)
 sizes a t =
     let p = and-parts (is-letter (a .letter)) _ t in
     let q = and-parts (leb (length (a .arguments)) 2 && each is-argument (a .arguments)) _ (p .1) in

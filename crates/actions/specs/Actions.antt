@@ -56,9 +56,20 @@ abbrev pub action-text : Act → List ℕ
 action-text a =
     operation-record (a .letter) ++ (joined argument-record (a .arguments) ++ (joined input-record (a .inputs) ++ record-bytes End []))
 
+-- the size of an argument's record, and of an input's
+abbrev pub argument-size : ℕ
+argument-size = record-size Argument
+
+abbrev pub input-size : ℕ
+input-size = record-size Input
+
 -- the size of an action text with so many arguments and inputs
 abbrev pub action-size : ℕ → ℕ → ℕ
-action-size m n = record-size Operation + (m * record-size Argument + (n * record-size Input + record-size End))
+action-size m n = record-size Operation + (m * argument-size + (n * input-size + record-size End))
+
+-- the size of the longest action text
+abbrev pub longest-text : ℕ
+longest-text = action-size argument-most input-most
 
 -- the records of some elements, each of one size, written from a place of a buffer on, and the place behind them
 pub record Records-put {X : Type 0} (text : X → List ℕ) (size : ℕ) (xs : List X) (buffer : List ℕ) (at : ℕ) (r : Option ℕ) (after : List ℕ) : Type 0 where
@@ -122,4 +133,4 @@ Actions-round-trip =
     ((a : Act) → is-action a ≡ true → read-action (action-text a) ≡ Some a)
     × ((bs : List ℕ) (a : Act) → Under 256 bs → read-action bs ≡ Some a → (bs ≡ action-text a) × (is-action a ≡ true))
     × ((a b : Act) → is-action a ≡ true → is-action b ≡ true → action-text a ≡ action-text b → a ≡ b)
-    × ((a : Act) → is-action a ≡ true → (length (action-text a) ≡ action-size (length (a .arguments)) (length (a .inputs))) × (length (action-text a) ≤ 187))
+    × ((a : Act) → is-action a ≡ true → (length (action-text a) ≡ action-size (length (a .arguments)) (length (a .inputs))) × (length (action-text a) ≤ longest-text))

@@ -1,3 +1,4 @@
 pub mod Trips
 pub mod Sums
 pub mod Damage
+pub mod Exact

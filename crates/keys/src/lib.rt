@@ -1,6 +1,6 @@
 //! Keys of byte strings, and the digests that they come from.
 
-ghost use Rattle.keys.specs.Detects.{Single-bytes-detected, Tally-fits};
+ghost use Rattle.keys.specs.Detects.{Single-bytes-detected, Keys-uncut, Tally-fits};
 ghost use Rattle.keys.specs.Keys.{Keys-round-trip};
 
 pub mod digest;
@@ -34,6 +34,13 @@ pub fn single_bytes_detected() -> u8
 /// Carries the theorem that Tally's sums stay far below 64 bits.
 pub fn tally_fits() -> u8
     ensures { λ _. ⌜ Tally-fits ⌝ }
+{
+    0
+}
+
+/// Carries the theorem that a key under FNV-1a or Tally has exactly the digest's words and the byte count.
+pub fn keys_uncut() -> u8
+    ensures { λ _. ⌜ Keys-uncut ⌝ }
 {
     0
 }

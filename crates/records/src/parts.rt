@@ -9,6 +9,7 @@ ghost use Rattle.std.specs.Options.{mapped};
 ghost use Rattle.std.specs.declared.option.Option.the-variants.{Some, None};
 ghost use Rattle.records.specs.Records.{kind-number, body-length, record-size, record-bytes, split-record, split-of, record-fits};
 use crate::kind::Kind;
+use keys::Key;
 
 /// The first byte of a record of that kind.
 pub fn kind_number(kind: Kind) -> u8
@@ -33,9 +34,9 @@ pub fn body_length(kind: Kind) -> usize
         Kind::End => 0,
         Kind::Operation => 1,
         Kind::Argument => 17,
-        Kind::Input => 36,
-        Kind::Result => 36,
-        Kind::LogHead => 40,
+        Kind::Input => Key::SIZE,
+        Kind::Result => Key::SIZE,
+        Kind::LogHead => Key::SIZE + 4,
         Kind::LogBlock => 32,
     }
 }

@@ -5,7 +5,7 @@ ghost use Prim.Native.Nat.{_≤_};
 ghost use lib.ListN.{take};
 ghost use Rattle.std.specs.declared.option.Option.the-variants.{Some};
 ghost use Rattle.keys.specs.Digests.{key-of};
-ghost use Rattle.actions.specs.Actions.{action-text};
+ghost use Rattle.actions.specs.Actions.{action-text, longest-text};
 ghost use Rattle.actions.specs.Views.{act-of};
 use super::Action;
 use keys::Digest;
@@ -14,8 +14,8 @@ use keys::key_of;
 
 impl Action {
     /// The action's text at the front of an array that has room for the longest, and its size.
-    pub fn text(&self) -> ([u8; 187], usize)
-        ensures within { λ r. ⌜ r .1 ≤ 187 ⌝ }
+    pub fn text(&self) -> ([u8; Action::LONGEST], usize)
+        ensures within { λ r. ⌜ r .1 ≤ longest-text ⌝ }
         ensures value { λ r. ⌜ take (r .1) (r .0) ≡ action-text (act-of (now (self .entry))) ⌝ }
     {
         let mut room = [0u8; Action::LONGEST];

@@ -10,6 +10,8 @@ ghost use Rattle.actions.specs.Actions.{several, argument-most, part-in, read-
 ghost use Rattle.actions.specs.Words.{read-argument-body};
 ghost use Rattle.actions.specs.Views.{argument-bytes, act-of, arguments-read, inputs-read};
 use super::Action;
+use super::texts::ARGUMENT_RECORD;
+use super::texts::INPUT_RECORD;
 use crate::argument::Argument;
 use keys::Key;
 use lists::are_zeros;
@@ -61,7 +63,7 @@ fn read_arguments<'a>(bytes: &'a [u8], into: &mut [Argument]) -> (usize, &'a [u8
             return (i, rest);
         };
         into[i] = argument;
-        rest = &rest[18..];
+        rest = &rest[ARGUMENT_RECORD..];
     }
     (into.len(), rest)
 }
@@ -77,7 +79,7 @@ fn read_inputs<'a>(bytes: &'a [u8], into: &mut [Key]) -> (usize, &'a [u8])
             return (i, rest);
         };
         into[i] = key;
-        rest = &rest[37..];
+        rest = &rest[INPUT_RECORD..];
     }
     (into.len(), rest)
 }

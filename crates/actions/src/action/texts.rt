@@ -7,13 +7,21 @@ ghost use lib.ListN.{length};
 ghost use Rattle.std.specs.Options.{mapped};
 ghost use Rattle.records.specs.Results.{front-size, with-front};
 ghost use Rattle.actions.specs.Words.{is-letter};
-ghost use Rattle.actions.specs.Actions.{make-action, action-text, action-size, input-record, Records-put};
+ghost use Rattle.actions.specs.Actions.{make-action, action-text, argument-size, input-size, action-size, input-record, Records-put};
 ghost use Rattle.actions.specs.Views.{argument-bytes, argument-text, act-of};
 use super::Action;
 use crate::argument::Argument;
 use keys::Key;
 use records::Kind;
 use records::put_record;
+
+const OPERATION_RECORD: usize = 1 + 1;
+
+pub(crate) const ARGUMENT_RECORD: usize = 1 + 1 + 16;
+
+pub(crate) const INPUT_RECORD: usize = 1 + Key::SIZE;
+
+const END_RECORD: usize = 1;
 
 /// Whether a byte is a letter A to Z.
 fn is_letter(b: u8) -> bool
@@ -23,8 +31,9 @@ fn is_letter(b: u8) -> bool
 }
 
 impl Action {
-    /// The size of the longest action text.
-    pub const LONGEST: usize = 187;
+    /// The size of the longest action text: 187 bytes.
+    pub const LONGEST: usize = OPERATION_RECORD
+        + (2 * ARGUMENT_RECORD + (4 * INPUT_RECORD + END_RECORD));
 
     /// The action of these parts; absent unless they are a letter A to Z, up to 2 arguments and 1 to 4 inputs.
     pub fn new(letter: u8, arguments: &[Argument], inputs: &[Key]) -> Option<Action>
@@ -71,7 +80,9 @@ impl Action {
     pub fn size(&self) -> usize
         ensures { λ r. ⌜ r ≡ action-size (length (act-of (now (self .entry)) .arguments)) (length (act-of (now (self .entry)) .inputs)) ⌝ }
     {
-        2 + (self.argument_count * 18 + (self.input_count * 37 + 1))
+        OPERATION_RECORD
+            + (self.argument_count * ARGUMENT_RECORD
+                + (self.input_count * INPUT_RECORD + END_RECORD))
     }
 
     /// Writes the action's text at the front of a buffer, and answers its size; absent, and nothing is written, where
@@ -92,8 +103,8 @@ impl Action {
 
 /// Writes the records of arguments at a place with room for them, and answers the place behind them.
 fn put_arguments(into: &mut [u8], at: usize, arguments: &[Argument]) -> Option<usize>
-    requires { ⌜ at + length (now arguments) * 18 ≤ length (now into) ⌝ }
-    ensures { λ r. ⌜ Records-put argument-text 18 (now (arguments .entry)) (now (into .entry)) at r (now (into .exit)) ⌝ }
+    requires { ⌜ at + length (now arguments) * argument-size ≤ length (now into) ⌝ }
+    ensures { λ r. ⌜ Records-put argument-text argument-size (now (arguments .entry)) (now (into .entry)) at r (now (into .exit)) ⌝ }
 {
     let mut place = at;
     for argument in arguments {
@@ -104,8 +115,8 @@ fn put_arguments(into: &mut [u8], at: usize, arguments: &[Argument]) -> Option<u
 
 /// Writes the records of inputs at a place with room for them, and answers the place behind them.
 fn put_inputs(into: &mut [u8], at: usize, inputs: &[Key]) -> Option<usize>
-    requires { ⌜ at + length (now inputs) * 37 ≤ length (now into) ⌝ }
-    ensures { λ r. ⌜ Records-put input-record 37 (now (inputs .entry)) (now (into .entry)) at r (now (into .exit)) ⌝ }
+    requires { ⌜ at + length (now inputs) * input-size ≤ length (now into) ⌝ }
+    ensures { λ r. ⌜ Records-put input-record input-size (now (inputs .entry)) (now (into .entry)) at r (now (into .exit)) ⌝ }
 {
     let mut place = at;
     for key in inputs {

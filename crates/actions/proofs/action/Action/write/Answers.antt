@@ -11,7 +11,7 @@ use Rattle.std.specs.declared.option.Option.the-variants.{Some, None}
 use Rattle.std.proofs.shelf.Lists.{length-map}
 use Rattle.records.specs.declared.kind.Kind.the-variants.{Operation, End}
 use Rattle.records.specs.Records.{record-fits}
-use Rattle.actions.specs.Actions.{action-text, operation-record, argument-record, input-record}
+use Rattle.actions.specs.Actions.{action-text, operation-record, argument-record, input-record, argument-size, input-size}
 use Rattle.actions.specs.Views.{argument-bytes, argument-text, act-of}
 use Rattle.actions.proofs.Makes.{each-argument}
 use Rattle.actions.proofs.Puts.{put-yes}
@@ -60,17 +60,17 @@ returns c =
     let ks = c .inputs .result .now in
     let f = first-place (a .letter) (c .in-Continue-at .at) d (c .put-record .last .into) (omega arith) (c .in-Continue-at .ensures tt .answer) (c .in-Continue-at .ensures tt .after) in
     let args = c .in-Continue-at-2 .ensures tt in
-    let g : c .in-Continue-at-2 .at ≡ 2 + length ws * 18 = second-place (c .in-Continue-at-2 .at) _ (args .place) ∙ ap (λ x. x + length ws * 18) (f .0) in
+    let g : c .in-Continue-at-2 .at ≡ 2 + length ws * argument-size = second-place (c .in-Continue-at-2 .at) _ (args .place) ∙ ap (λ x. x + length ws * argument-size) (f .0) in
     let keys = c .in-Continue-at-3 .ensures tt in
-    let h : c .in-Continue-at-3 .at ≡ 2 + length ws * 18 + length ks * 37 = second-place (c .in-Continue-at-3 .at) _ (keys .place) ∙ ap (λ x. x + length ks * 37) g in
+    let h : c .in-Continue-at-3 .at ≡ 2 + length ws * argument-size + length ks * input-size = second-place (c .in-Continue-at-3 .at) _ (keys .place) ∙ ap (λ x. x + length ks * input-size) g in
     let l = length-map ws argument-bytes in
     let m = ap length (c .arguments .ensures) in
     let n = ap length (c .inputs .ensures) in
     let e = put-yes End [] (c .put-inputs .last .into) (c .put-record-2 .last .into) (c .in-Continue-at-3 .at) (c .put-record-2 .result) refl (omega arith) (c .put-record-2 .ensures .answer) (c .put-record-2 .ensures .after) in
-    let b2 = args .bytes ∙ ap (λ x. paste (c .put-record .last .into) x (joined argument-text ws) (length ws * 18)) (f .0) in
-    let b3 = keys .bytes ∙ ap (λ x. paste (c .put-arguments .last .into) x (joined input-record ks) (length ks * 37)) g in
+    let b2 = args .bytes ∙ ap (λ x. paste (c .put-record .last .into) x (joined argument-text ws) (length ws * argument-size)) (f .0) in
+    let b3 = keys .bytes ∙ ap (λ x. paste (c .put-arguments .last .into) x (joined input-record ks) (length ks * input-size)) g in
     let b4 = e .1 ∙ ap (λ x. paste (c .put-inputs .last .into) x (0 ∷ []) 1) h in
-    let all = assembled d (operation-record (a .letter)) (joined argument-text ws) (joined input-record ks) (0 ∷ []) _ _ _ _ 2 (length ws * 18) (length ks * 37) 1 refl (sym (args .long)) (sym (keys .long)) refl (f .1) b2 b3 b4 in
+    let all = assembled d (operation-record (a .letter)) (joined argument-text ws) (joined input-record ks) (0 ∷ []) _ _ _ _ 2 (length ws * argument-size) (length ks * input-size) 1 refl (sym (args .long)) (sym (keys .long)) refl (f .1) b2 b3 b4 in
     let texts : joined argument-text ws ≡ joined argument-record (act-of a .arguments) = joined-map argument-record argument-bytes ws ∙ ap (joined argument-record) (c .arguments .ensures) in
     let same : operation-record (a .letter) ++ (joined argument-text ws ++ (joined input-record ks ++ 0 ∷ [])) ≡ action-text (act-of a) =
     ap (λ xs. operation-record (a .letter) ++ (xs ++ (joined input-record ks ++ 0 ∷ []))) texts

@@ -5,7 +5,7 @@ use lib.ListN.{length, take, set}
 use Rattle.std.proofs.shelf.Lists.{take-more-set, length-set}
 use Rattle.keys.specs.Keys.{read-key}
 use Rattle.records.specs.declared.kind.Kind.the-variants.{Input}
-use Rattle.actions.specs.Actions.{several, read-input}
+use Rattle.actions.specs.Actions.{several, read-input, input-size}
 use Rattle.actions.proofs.Scans.{record-rest, read-stop, read-more}
 use Rattle.actions.proofs.action.reading.read_inputs.Needs as need
 
@@ -22,5 +22,5 @@ loop-i-again c =
     let i = c .loop-i .i in
     let x = c .in-Some .key in
     let l = length-set into i x in
-    read-more read-input (length into - i) (length (set into i x) - (i + 1)) 37 (c .loop-i .rest .now) _ (take i into) _ x _
+    read-more read-input (length into - i) (length (set into i x) - (i + 1)) input-size (c .loop-i .rest .now) _ (take i into) _ x _
     (record-rest Input read-key (c .loop-i .rest .now)) (omega arith) (c .loop-i .inv) (c .in-Some .ensures tt) (take-more-set into i x (omega arith)) refl
