@@ -3,7 +3,7 @@
 use crate::mark::Mark;
 
 /// A making that was declined: nothing is made, and what was given comes back.
-#[derive(Clone, Copy)]
+#[derive(Drop)]
 pub struct Declined<T> {
     pub given: T,
 }
