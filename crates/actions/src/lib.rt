@@ -1,5 +1,7 @@
 //! Action texts: what a step does and to which inputs, as bytes whose key names the step in a cache.
 
+#![tactic(auto)]
+
 pub mod action;
 pub mod argument;
 

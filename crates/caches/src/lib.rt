@@ -1,5 +1,7 @@
 //! Cache files as text: which pairs they hold, and where they are damaged.
 
+#![tactic(auto)]
+
 pub mod logs;
 pub mod pairs;
 pub mod tables;

@@ -1,5 +1,7 @@
 //! Log entries: a head record, then as many block records as the value fills.
 
+#![tactic(auto)]
+
 ghost use Rattle.entries.specs.Entries.{EntriesRoundTrip, EntrySizes};
 
 pub mod blocks;

@@ -1,5 +1,7 @@
 //! Bytes as hexadecimal text.
 
+#![tactic(auto)]
+
 ghost use Rattle.std.specs.Prelude.{◌≡◌, ◌*◌, ◌<◌, true, length, IfOk, if◌then◌else◌, string_bytes};
 ghost use Rattle.hexadecimal.specs.Hex.{hex, hex_digit, is_digit, are_digits, digit_value, unhex, writes_bytes, HexRoundTrip};
 

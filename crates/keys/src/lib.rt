@@ -1,5 +1,7 @@
 //! Keys of byte strings, and the digests that they come from.
 
+#![tactic(auto)]
+
 ghost use Rattle.keys.specs.Detects.{SingleBytesDetected, KeysUncut, TallyFits};
 ghost use Rattle.keys.specs.Keys.{KeysRoundTrip};
 

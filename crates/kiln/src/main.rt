@@ -1,5 +1,7 @@
 //! The program `kiln`: reads its arguments and files, calls the library, prints.
 
+#![tactic(auto)]
+
 mod cache;
 mod files;
 

@@ -1,5 +1,7 @@
 //! The lines that the program `kiln` prints, as text.
 
+#![tactic(auto)]
+
 ghost use Rattle.std.specs.Prelude.{◌≡◌, IfOk, Some, string_bytes};
 ghost use Rattle.std.specs.Option.{option_map};
 ghost use Rattle.keys.specs.Digests.{key_of};

@@ -1,5 +1,7 @@
 //! Tests of each element of a list.
 
+#![tactic(auto)]
+
 ghost use Rattle.std.specs.Prelude.{◌≡◌};
 ghost use Rattle.lists.specs.Each.{all_zero};
 

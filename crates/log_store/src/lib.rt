@@ -1,5 +1,7 @@
 //! Log: a store over bytes that hold entries one after another.
 
+#![tactic(auto)]
+
 pub mod log;
 pub mod walk;
 

@@ -1,4 +1,4 @@
-use Rattle.std.proofs.Common.{◌≡◌, ℕ, suc, ◌+◌, ◌-◌, ◌*◌, ◌/◌, ◌%◌, ◌^◌, ◌<◌, ◌≤◌, List, [], ◌∷◌, length, drop, set, sym, refl, ap, ◌∙◌, mul_comm, arith, length-set}
+use Rattle.std.proofs.Common.{◌≡◌, ℕ, suc, ◌+◌, ◌-◌, ◌*◌, ◌/◌, ◌%◌, ◌^◌, ◌<◌, ◌≤◌, List, length, drop, set, sym, ap, ◌∙◌, mul_comm, arith}
 use native.Mathlib.Nat.{pow-succ', div-div-eq-div-mul, pow-le-pow_right}
 use Rattle.std.proofs.lemmas.List.{drop-set}
 use Rattle.numbers.specs.BigEndian.{big_endian}

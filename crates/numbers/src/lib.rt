@@ -1,5 +1,7 @@
 //! Whole numbers as bytes, high byte first: one writer and one reader for every width.
 
+#![tactic(auto)]
+
 ghost use Rattle.std.specs.Prelude.{◌≡◌, length};
 ghost use Rattle.numbers.specs.BigEndian.{big_endian, read_big_endian, RoundTrips};
 

@@ -1,5 +1,7 @@
 //! Small records: one byte of kind, then a body whose length the kind fixes.
 
+#![tactic(auto)]
+
 pub mod kind;
 pub mod parts;
 pub mod results;

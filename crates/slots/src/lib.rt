@@ -1,5 +1,7 @@
 //! Slots: a store over bytes that are cut into slots of one size.
 
+#![tactic(auto)]
+
 pub mod slots;
 pub mod table;
 

@@ -1,5 +1,7 @@
 //! Stores over damaged bytes, run and compared.
 
+#![tactic(auto)]
+
 mod score;
 mod stores;
 

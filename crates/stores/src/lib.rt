@@ -1,5 +1,7 @@
 //! What a store of pairs is: the interface, its meaning, and the store that holds nothing.
 
+#![tactic(auto)]
+
 pub mod absent;
 pub mod answers;
 pub mod mark;

@@ -1,5 +1,7 @@
 //! Outside vectors and worked cases, run and compared.
 
+#![tactic(auto)]
+
 mod digests;
 mod formats;
 mod score;

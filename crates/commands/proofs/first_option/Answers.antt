@@ -7,12 +7,12 @@ use Rattle.commands.proofs.first_option.Goals as goal
 pub loop-word-preserved : goal.loop-word-preserved
 loop-word-preserved c =
     passed c.args.words.now c.loop-word.word-index c.word-item.result (omega arith) c.word-item.is
-    (ap is_option (sym c.as-str.ensures.value) ∙ sym c.if-is-option.ensures) c.loop-word.invariant
+    (ap is_option (sym c.as_str.ensures.value) ∙ sym c.if-is_option.ensures) c.loop-word.invariant
 
-pub returns-then-is-option : goal.returns-then-is-option
-returns-then-is-option c =
+pub returns-then-is_option : goal.returns-then-is_option
+returns-then-is_option c =
     found c.args.words.now c.loop-word.word-index c.word-item.result (omega arith) c.word-item.is
-    (ap is_option (sym c.as-str.ensures.value) ∙ sym c.if-is-option.ensures) c.loop-word.invariant c.as-str-then-is-option.ensures.value
+    (ap is_option (sym c.as_str.ensures.value) ∙ sym c.if-is_option.ensures) c.loop-word.invariant c.as_str-then-is_option.ensures.value
 
 pub returns : goal.returns
 returns c =

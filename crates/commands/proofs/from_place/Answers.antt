@@ -6,13 +6,13 @@ use Rattle.commands.proofs.from_place.Goals as goal
 pub loop-i-preserved : goal.loop-i-preserved
 loop-i-preserved c =
     place-passed c.args.words.now c.loop-i.i c.index-words-i.result (omega arith) c.index-words-i.is
-    (ap (λ w. bytes_eq w (codes "from")) (sym c.as-str.ensures.value) ∙ sym c.if-is.ensures) c.loop-i.invariant
+    (ap (λ w. bytes_eq w (codes "from")) (sym c.as_str.ensures.value) ∙ sym c.if-is.ensures) c.loop-i.invariant
 
 pub returns-then-is : goal.returns-then-is
 returns-then-is c =
     record {
       value = place_found c.args.words.now c.loop-i.i c.index-words-i.result (omega arith) c.index-words-i.is
-          (ap (λ w. bytes_eq w (codes "from")) (sym c.as-str.ensures.value) ∙ sym c.if-is.ensures) c.loop-i.invariant;
+          (ap (λ w. bytes_eq w (codes "from")) (sym c.as_str.ensures.value) ∙ sym c.if-is.ensures) c.loop-i.invariant;
       within = omega arith;
     }
 

@@ -1,4 +1,4 @@
-use Rattle.std.proofs.Common.{◌≡◌, ◌+◌, ◌*◌, ◌^◌, ◌<◌, length, get_or, Some, None, sym, ap, ◌∙◌, arith}
+use Rattle.std.proofs.Common.{◌+◌, ◌*◌, ◌^◌, ◌<◌, length, Some, ap, ◌∙◌, arith}
 use Rattle.std.specs.Int.Digits.{number_from_digits}
 use Rattle.std.proofs.lemmas.Int.Digits.{number_more}
 use Rattle.std.proofs.lemmas.List.{take_all}
@@ -6,8 +6,8 @@ use Rattle.std.proofs.lemmas.Bool.{le-leb}
 use Rattle.numbers.proofs.Steps.{fits_64, fits_more}
 use Rattle.numbers.proofs.read_number.Goals as goal
 
-pub overflow-mul-number : goal.overflow-mul-number
-overflow-mul-number c =
+pub overflow_mul-number : goal.overflow_mul-number
+overflow_mul-number c =
     let n = c.loop-b.number in
     let i = c.loop-b.b-index in
     let m : n * 256 + 0 < 256 ^ (i + 1) = fits_more n i 0 c.loop-b.invariant.1 (omega arith) in
@@ -16,10 +16,10 @@ overflow-mul-number c =
 -- the number with one byte more
 more : (c : goal.After-from) → c.loop-b.number * 256 + c.from.result < 256 ^ (c.loop-b.b-index + 1)
 more c =
-    fits_more c.loop-b.number c.loop-b.b-index c.from.result c.loop-b.invariant.1 (omega (arith, c.type-inv.bytes c.loop-b.b-index))
+    fits_more c.loop-b.number c.loop-b.b-index c.from.result c.loop-b.invariant.1 (omega (arith, c.type_inv.bytes c.loop-b.b-index))
 
-pub overflow-add-number : goal.overflow-add-number
-overflow-add-number c =
+pub overflow_add-number : goal.overflow_add-number
+overflow_add-number c =
     omega (arith, fits_64 (c.loop-b.number * 256 + c.from.result) (c.loop-b.b-index + 1) (more c) (omega arith))
 
 pub loop-b-preserved : goal.loop-b-preserved

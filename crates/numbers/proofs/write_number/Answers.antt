@@ -1,4 +1,4 @@
-use Rattle.std.proofs.Common.{◌≡◌, ℕ, suc, ◌-◌, ◌/◌, ◌%◌, ◌^◌, length, set, sym, refl, ap, ◌∙◌, div-one, arith, length-set}
+use Rattle.std.proofs.Common.{◌≡◌, suc, ◌-◌, ◌/◌, ◌%◌, ◌^◌, length, set, sym, refl, ap, ◌∙◌, div-one, arith, length-set}
 use Rattle.std.proofs.lemmas.List.{drop_all}
 use Rattle.numbers.specs.BigEndian.{big_endian}
 use Rattle.numbers.proofs.Steps.{rest_more, places_more}

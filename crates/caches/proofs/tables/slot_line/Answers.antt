@@ -6,20 +6,20 @@ use Rattle.caches.specs.Listings.{about_slot, pair_text}
 use Rattle.caches.proofs.Lines.{slot_some, slot_half, slot_none}
 use Rattle.caches.proofs.tables.slot_line.Goals as goal
 
-pub returns-in-default : goal.returns-in-default
-returns-in-default g c =
+pub returns-in_default : goal.returns-in_default
+returns-in_default g c =
     let bs = bytes_of c.args.store.now in
-    c.new.ensures.bytes ∙ slot_none g.D.Digest.most g.D.Digest.words c.args.i (is_damaged_at c.args.i bs) false (pair_at c.args.i bs) c.in-default.ensures c.if-is-damaged-at.ensures
+    c.new.ensures.bytes ∙ slot_none g.D.Digest.most g.D.Digest.words c.args.i (is_damaged_at c.args.i bs) false (pair_at c.args.i bs) c.in_default.ensures c.if-is_damaged_at.ensures
 
-pub returns-in-default-value-at : goal.returns-in-default-value-at
-returns-in-default-value-at g c =
-    slot_half g.D.Digest.most g.D.Digest.words (pair_at c.args.i (bytes_of c.args.store.now)) c.in-Some.key c.in-Some.ensures c.in-default-value-at.ensures
+pub returns-in_default-value_at : goal.returns-in_default-value_at
+returns-in_default-value_at g c =
+    slot_half g.D.Digest.most g.D.Digest.words (pair_at c.args.i (bytes_of c.args.store.now)) c.in-Some.key c.in-Some.ensures c.in_default-value_at.ensures
 
 pub returns : goal.returns
 returns g c =
     let bs = bytes_of c.args.store.now in
     let i = c.args.i in
     let key = c.in-Some.key in
-    let value = c.in-Some-value-at.value.now in
-    let line = slot_some g.D.Digest.most g.D.Digest.words i (is_damaged_at i bs) (pair_at i bs) key value c.in-Some.ensures c.in-Some-value-at.ensures in
-    IfOk-weaker c.about-slot-2.result _ _ (λ t h. h ∙ (ap (about_slot i) (c.as-str.ensures.value ∙ c.in-ok-pair.ensures) ∙ line)) c.about-slot-2.ensures
+    let value = c.in-Some-value_at.value.now in
+    let line = slot_some g.D.Digest.most g.D.Digest.words i (is_damaged_at i bs) (pair_at i bs) key value c.in-Some.ensures c.in-Some-value_at.ensures in
+    IfOk-weaker c.about_slot-2.result _ _ (λ t h. h ∙ (ap (about_slot i) (c.as_str.ensures.value ∙ c.in_ok-pair.ensures) ∙ line)) c.about_slot-2.ensures

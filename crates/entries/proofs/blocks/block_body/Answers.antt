@@ -11,4 +11,4 @@ returns c =
     let way : ((n ≡ 32) × (32 ≤ length v - i * 32)) ⊎ ((n ≡ length v - i * 32) × (n < 32)) =
     elim c.if-value-start-lt-BLOCK.branch [ then-value-start-lt-BLOCK w ↦ inr (w.len-is, omega arith) | else-value-start-lt-BLOCK w ↦ inl (w.len-is, omega arith) ] in
     let k : i * 32 + n - i * 32 ≡ n = omega arith in
-    piece v _ i n c.requires way (c.copy-from-slice.ensures.after ∙ ap (λ j. take j (drop (i * 32) v)) k)
+    piece v _ i n c.requires way (c.copy_from_slice.ensures.after ∙ ap (λ j. take j (drop (i * 32) v)) k)

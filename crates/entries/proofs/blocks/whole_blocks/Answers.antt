@@ -10,11 +10,11 @@ loop-init c =
     let z : c.args.count ≡ c.args.count - 0 = omega arith in
     ap (λ k. whole_blocks k c.args.bytes.now) z
 
-pub returns-in-default : goal.returns-in-default
-returns-in-default c =
+pub returns-in_default : goal.returns-in_default
+returns-in_default c =
     let m = c.args.count - c.loop.counter in
     let e : m ≡ suc (m - 1) = omega arith in
-    let w = whole_none (m - 1) m c.loop.rest.now e c.in-default.ensures in
+    let w = whole_none (m - 1) m c.loop.rest.now e c.in_default.ensures in
     record { answer = sym (c.loop.invariant ∙ w); long = λ t. absurd (false≢true t) }
 
 pub loop-preserved : goal.loop-preserved

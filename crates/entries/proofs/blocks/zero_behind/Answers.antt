@@ -5,14 +5,14 @@ use Rattle.entries.specs.Blocks.{block_count, joined_bodies}
 use Rattle.entries.proofs.Runs.{length-bodies, get_or-bodies}
 use Rattle.entries.proofs.blocks.zero_behind.Goals as goal
 
-pub returns-then-value-byte-ne0 : goal.returns-then-value-byte-ne0
-returns-then-value-byte-ne0 c =
+pub returns-then-value_byte-ne0 : goal.returns-then-value_byte-ne0
+returns-then-value_byte-ne0 c =
     let bs = c.args.blocks.now in
     let n = block_count c.args.len in
     let i = c.loop-i.i in
     let l = length-bodies n bs c.requires.1 in
-    let g = c.value-byte.ensures ∙ sym (get_or-bodies n bs i (omega arith)) in
-    sym (c.loop-i.invariant ∙ each_not (eqb 0) (joined_bodies n bs) i 0 (omega arith) (ne_eqb 0 _ (λ z. c.if-value-byte-ne0.true (g ∙ sym z))))
+    let g = c.value_byte.ensures ∙ sym (get_or-bodies n bs i (omega arith)) in
+    sym (c.loop-i.invariant ∙ each_not (eqb 0) (joined_bodies n bs) i 0 (omega arith) (ne_eqb 0 _ (λ z. c.if-value_byte-ne0.true (g ∙ sym z))))
 
 pub loop-i-preserved : goal.loop-i-preserved
 loop-i-preserved c =
@@ -20,8 +20,8 @@ loop-i-preserved c =
     let n = block_count c.args.len in
     let i = c.loop-i.i in
     let l = length-bodies n bs c.requires.1 in
-    let g = c.value-byte.ensures ∙ sym (get_or-bodies n bs i (omega arith)) in
-    c.loop-i.invariant ∙ each_more (eqb 0) (joined_bodies n bs) i 0 (omega arith) (eq-eqb 0 _ (sym (sym g ∙ c.if-value-byte-ne0.false)))
+    let g = c.value_byte.ensures ∙ sym (get_or-bodies n bs i (omega arith)) in
+    c.loop-i.invariant ∙ each_more (eqb 0) (joined_bodies n bs) i 0 (omega arith) (eq-eqb 0 _ (sym (sym g ∙ c.if-value_byte-ne0.false)))
 
 pub returns : goal.returns
 returns c =

@@ -12,7 +12,7 @@ loop-i-init c = paste_none c.args.into.now (record_size LogHead) []
 
 pub loop-i-preserved : goal.loop-i-preserved
 loop-i-preserved c =
-    put_more c.args.into.now c.loop-i.into c.put-record.new.into c.args.value.now c.block-body.result c.loop-i.i c.requires.1 (omega arith) c.loop-i.invariant (omega arith) c.block-body.ensures c.put-record.ensures.after
+    put_more c.args.into.now c.loop-i.into c.put_record.new.into c.args.value.now c.block_body.result c.loop-i.i c.requires.1 (omega arith) c.loop-i.invariant (omega arith) c.block_body.ensures c.put_record.ensures.after
 
 pub returns : goal.returns
 returns c =

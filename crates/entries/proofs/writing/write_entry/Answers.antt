@@ -9,9 +9,9 @@ returns-then-into-size c =
     let k = c.args.key.now in
     let v = c.args.value.now in
     let d = c.args.into.now in
-    let s = size_some (length v) c.in-ok-size.size c.in-ok-size.ensures in
+    let s = size_some (length v) c.in_ok-size.size c.in_ok-size.ensures in
     let t = s.0 in
-    let l = size_by_head k v c.head-body-head.result (omega arith) c.head-body-head.ensures in
+    let l = size_by_head k v c.head_body-head.result (omega arith) c.head_body-head.ensures in
     let f : leb (0 + length (entry_bytes k v)) (length d) ≡ false = lt-leb (0 + length (entry_bytes k v)) (length d) (omega arith) in
     rw (t, f) (record { answer = refl; after = refl })
 
@@ -20,11 +20,11 @@ returns c =
     let k = c.args.key.now in
     let v = c.args.value.now in
     let d = c.args.into.now in
-    let head = c.head-body-head.result in
-    let size = c.in-ok-size.size in
-    let s = size_some (length v) size c.in-ok-size.ensures in
+    let head = c.head_body-head.result in
+    let size = c.in_ok-size.size in
+    let s = size_some (length v) size c.in_ok-size.ensures in
     let t = s.0 in
-    let l = size_by_head k v head (omega arith) c.head-body-head.ensures in
+    let l = size_by_head k v head (omega arith) c.head_body-head.ensures in
     let f : leb (0 + length (entry_bytes k v)) (length d) ≡ true = le-leb (0 + length (entry_bytes k v)) (length d) (omega arith) in
-    let w = written k v d c.put-record.new.into c.put-blocks.new.into head size (omega arith) c.head-body-head.ensures s.1 (omega arith) c.put-record.ensures.after c.put-blocks.ensures in
+    let w = written k v d c.put_record.new.into c.put_blocks.new.into head size (omega arith) c.head_body-head.ensures s.1 (omega arith) c.put_record.ensures.after c.put_blocks.ensures in
     rw (t, f) (record { answer = ap Some (s.1 ∙ sym l); after = w })

@@ -11,5 +11,5 @@ pub returns-in-Some : goal.returns-in-Some
 returns-in-Some c =
     let v = c.args.value.now in
     let e = c.in-Some.entry in
-    same_from_decides c.has-value.result _ c.has-value.ensures (bytes_eq-Decides (value_of e) v)
+    same_from_decides c.has_value.result _ c.has_value.ensures (bytes_eq-Decides (value_of e) v)
     ∙ ap (λ o. is_value v (option_map value_of o)) (sym c.in-Some.is)

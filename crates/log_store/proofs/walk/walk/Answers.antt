@@ -36,7 +36,7 @@ loop-entry-preserved c =
 
 pub returns : goal.returns
 returns c =
-    let n = entries_none c.loop-entry.rest.now (sym c.in-default.ensures) in
+    let n = entries_none c.loop-entry.rest.now (sym c.in_default.ensures) in
     record {
       last = sym (c.loop-entry.invariant.0 ∙ ap (λ es. later (option_map value_of c.loop-entry.last) (last_value c.args.key.now es)) n.0);
       rest = sym (c.loop-entry.invariant.1 ∙ n.1);

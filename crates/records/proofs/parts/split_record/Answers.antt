@@ -6,6 +6,6 @@ use Rattle.records.proofs.parts.split_record.Goals as goal
 pub returns : goal.returns
 returns c =
     let bs = c.args.bytes.now in
-    let some = eqb-false (length bs) 0 (sym c.if-is-empty.ensures) in
-    split_yes c.args.kind bs _ _ c.body-length-length.result c.body-length-length.ensures (omega arith)
-    (c.if-bytes-kind-number.false ∙ c.kind_number.ensures) c.if-bytes-length.false refl refl
+    let some = eqb-false (length bs) 0 (sym c.if-is_empty.ensures) in
+    split_yes c.args.kind bs _ _ c.body_length-length.result c.body_length-length.ensures (omega arith)
+    (c.if-bytes-kind_number.false ∙ c.kind_number.ensures) c.if-bytes-length.false refl refl

@@ -14,9 +14,9 @@ sized i bs s v es ls short ev =
     let e = ev ∙ ap slot_value es in
     (e, ap length e ∙ length-take-le (slot_length t) (drop 41 t) (omega arith))
 
-pub slice-bounds-copy-from-slice-end : goal.slice-bounds-copy-from-slice-end
-slice-bounds-copy-from-slice-end c =
-    let v = sized c.args.i c.args.bytes.now c.slot-slot.result.now c.slot-value-value.result.now c.slot-slot.ensures.value c.slot-slot.ensures.long c.requires.short c.slot-value-value.ensures in
+pub slice_bounds-copy_from_slice-end : goal.slice_bounds-copy_from_slice-end
+slice_bounds-copy_from_slice-end c =
+    let v = sized c.args.i c.args.bytes.now c.slot-slot.result.now c.slot_value-value.result.now c.slot-slot.ensures.value c.slot-slot.ensures.long c.requires.short c.slot_value-value.ensures in
     let z = ap length c.blank.ensures ∙ length-replicate {A = ℕ} (length c.args.buffer.now) 0 in
     let room = c.requires.room in
     let short = c.requires.short in
@@ -24,9 +24,9 @@ slice-bounds-copy-from-slice-end c =
 
 pub returns : goal.returns
 returns c =
-    let v = sized c.args.i c.args.bytes.now c.slot-slot.result.now c.slot-value-value.result.now c.slot-slot.ensures.value c.slot-slot.ensures.long c.requires.short c.slot-value-value.ensures in
+    let v = sized c.args.i c.args.bytes.now c.slot-slot.result.now c.slot_value-value.result.now c.slot-slot.ensures.value c.slot-slot.ensures.long c.requires.short c.slot_value-value.ensures in
     let z = c.blank.ensures ∙ ap (λ k. replicate k 0) c.requires.room in
     record {
       size = v.1;
-      after = padded_copy _ c.copy-from-slice.new.self c.blank.new.buffer _ (length c.slot-value-value.result.now) (c.copy-from-slice.ensures.after ∙ v.0) (sym (ap length v.0)) z refl;
+      after = padded_copy _ c.copy_from_slice.new.self c.blank.new.buffer _ (length c.slot_value-value.result.now) (c.copy_from_slice.ensures.after ∙ v.0) (sym (ap length v.0)) z refl;
     }

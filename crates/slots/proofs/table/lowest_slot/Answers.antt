@@ -10,18 +10,18 @@ pub loop-i-preserved : goal.loop-i-preserved
 loop-i-preserved c =
     let bs = c.args.bytes.now in
     let k = c.args.key.now in
-    let e = c.slot-count-i-end.ensures in
-    c.loop-i.invariant ∙ passed k bs (slot_count (length bs)) c.loop-i.i (omega arith) (ap (slot_has k) (sym c.slot.ensures.value) ∙ sym c.if-slot-has.ensures)
+    let e = c.slot_count-i-end.ensures in
+    c.loop-i.invariant ∙ passed k bs (slot_count (length bs)) c.loop-i.i (omega arith) (ap (slot_has k) (sym c.slot.ensures.value) ∙ sym c.if-slot_has.ensures)
 
-pub returns-then-slot-has : goal.returns-then-slot-has
-returns-then-slot-has c =
+pub returns-then-slot_has : goal.returns-then-slot_has
+returns-then-slot_has c =
     let bs = c.args.bytes.now in
     let k = c.args.key.now in
-    let e = c.slot-count-i-end.ensures in
-    sym (c.loop-i.invariant ∙ found k bs (slot_count (length bs)) c.loop-i.i (omega arith) (ap (slot_has k) (sym c.slot.ensures.value) ∙ sym c.if-slot-has.ensures))
+    let e = c.slot_count-i-end.ensures in
+    sym (c.loop-i.invariant ∙ found k bs (slot_count (length bs)) c.loop-i.i (omega arith) (ap (slot_has k) (sym c.slot.ensures.value) ∙ sym c.if-slot_has.ensures))
 
 pub returns : goal.returns
 returns c =
     let bs = c.args.bytes.now in
-    let e = c.slot-count-i-end.ensures in
+    let e = c.slot_count-i-end.ensures in
     sym (c.loop-i.invariant ∙ ended c.args.key.now bs (slot_count (length bs)) c.loop-i.i (omega arith))

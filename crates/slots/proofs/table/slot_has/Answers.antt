@@ -11,4 +11,4 @@ returns-in-Some c =
     let s = c.args.slot.now in
     let own = c.in-Some.own_val in
     same_from_decides c.eq.result (same_key own k) c.eq.ensures (same_key_decides own k)
-    ∙ (ap (is_key k) c.in-Some.ensures ∙ ap (λ b. b && is_key k (slot_key s)) c.if-not-is-taken.ensures)
+    ∙ (ap (is_key k) c.in-Some.ensures ∙ ap (λ b. b && is_key k (slot_key s)) c.if-not-is_taken.ensures)

@@ -9,4 +9,4 @@ returns c =
     let i = c.args.i in
     let k = c.args.key.now in
     let v = c.args.value.now in
-    put_mid-paste (i * slot_size) (i * slot_size + slot_size - i * slot_size) c.args.bytes.now c.fill-slot.new.slot (slot_bytes k v) slot_size c.fill-slot.ensures (omega arith) (sym (length-slot_bytes k v c.requires.short))
+    put_mid-paste (i * slot_size) (i * slot_size + slot_size - i * slot_size) c.args.bytes.now c.fill_slot.new.slot (slot_bytes k v) slot_size c.fill_slot.ensures (omega arith) (sym (length-slot_bytes k v c.requires.short))

@@ -3,26 +3,26 @@ use Rattle.std.proofs.lemmas.Bool.{eqb-true, eqb-false}
 use Rattle.actions.specs.Views.{argument_bytes}
 use Rattle.actions.proofs.Makes.{no_letter, many_arguments, no_input, many_inputs, made, copied, same_act}
 use Rattle.actions.proofs.action.Action.new.Goals as goal
-use Rattle.actions.proofs.action.Action.new.Goals.{then-not-is-letter-via-then-not-is-letter, then-not-is-letter-via-else-not-is-letter+then-arguments-gt2, then-not-is-letter-via-else-not-is-letter+else-arguments-gt2+then-is-empty, then-not-is-letter-via-else-not-is-letter+else-arguments-gt2+else-is-empty+then-inputs-gt4}
+use Rattle.actions.proofs.action.Action.new.Goals.{then-not-is_letter-via-then-not-is_letter, then-not-is_letter-via-else-not-is-letter+then-arguments-gt2, then-not-is_letter-via-else-not-is-letter+else-arguments-gt2+then-is_empty, then-not-is_letter-via-else-not-is-letter+else-arguments-gt2+else-is-empty+then-inputs-gt4}
 
-pub returns-then-not-is-letter : goal.returns-then-not-is-letter
-returns-then-not-is-letter c =
+pub returns-then-not-is_letter : goal.returns-then-not-is_letter
+returns-then-not-is_letter c =
     let l = c.args.letter in
     let ws = c.args.arguments.now in
     let ks = c.args.inputs.now in
-    elim c.then-not-is-letter.branch [
-      | then-not-is-letter-via-then-not-is-letter w ↦ no_letter l ws ks (sym w.if-not-is-letter.ensures)
-      | then-not-is-letter-via-else-not-is-letter+then-arguments-gt2 w ↦ many_arguments l ws ks w.if-arguments-gt2.true
-      | then-not-is-letter-via-else-not-is-letter+else-arguments-gt2+then-is-empty w ↦ no_input l ws ks (eqb-true (length ks) 0 (sym w.if-is-empty.ensures))
-      | then-not-is-letter-via-else-not-is-letter+else-arguments-gt2+else-is-empty+then-inputs-gt4 w ↦ many_inputs l ws ks w.if-inputs-gt4.true
+    elim c.then-not-is_letter.branch [
+      | then-not-is_letter-via-then-not-is_letter w ↦ no_letter l ws ks (sym w.if-not-is_letter.ensures)
+      | then-not-is_letter-via-else-not-is-letter+then-arguments-gt2 w ↦ many_arguments l ws ks w.if-arguments-gt2.true
+      | then-not-is_letter-via-else-not-is-letter+else-arguments-gt2+then-is_empty w ↦ no_input l ws ks (eqb-true (length ks) 0 (sym w.if-is_empty.ensures))
+      | then-not-is_letter-via-else-not-is-letter+else-arguments-gt2+else-is-empty+then-inputs-gt4 w ↦ many_inputs l ws ks w.if-inputs-gt4.true
     ]
 
 pub returns : goal.returns
 returns c =
     let ws = c.args.arguments.now in
     let ks = c.args.inputs.now in
-    let some = eqb-false (length ks) 0 (sym c.if-is-empty.ensures) in
-    let t = made c.args.letter ws ks (sym c.if-not-is-letter.ensures) (omega arith) (omega arith) (omega arith) in
-    let a = ap (map argument_bytes) (copied ws c.copy-from-slice.new.self _ c.copy-from-slice.ensures.after) in
-    let b = copied ks c.copy-from-slice-2.new.self _ c.copy-from-slice-2.ensures.after in
+    let some = eqb-false (length ks) 0 (sym c.if-is_empty.ensures) in
+    let t = made c.args.letter ws ks (sym c.if-not-is_letter.ensures) (omega arith) (omega arith) (omega arith) in
+    let a = ap (map argument_bytes) (copied ws c.copy_from_slice.new.self _ c.copy_from_slice.ensures.after) in
+    let b = copied ks c.copy_from_slice-2.new.self _ c.copy_from_slice-2.ensures.after in
     rw t (ap Some (same_act c.args.letter _ (map argument_bytes ws) _ ks a b))

@@ -25,9 +25,9 @@ first_place l at d b1 fits er eo =
     let s : ◌≡◌ {A = Option ℕ} (Some at) (Some 2) = p.0 in
     (cc, p.1)
 
-pub put-arguments-requires : goal.put-arguments-requires
-put-arguments-requires c =
-    let f = first_place c.args.self.now.letter c.in-ok-at.at c.args.into.now c.put-record.new.into (omega arith) c.in-ok-at.ensures.answer c.in-ok-at.ensures.after in
+pub put_arguments-requires : goal.put_arguments-requires
+put_arguments-requires c =
+    let f = first_place c.args.self.now.letter c.in_ok-at.at c.args.into.now c.put_record.new.into (omega arith) c.in_ok-at.ensures.answer c.in_ok-at.ensures.after in
     let l = length-map c.arguments.result.now argument_bytes in
     let m = ap length c.arguments.ensures in
     omega arith
@@ -36,10 +36,10 @@ put-arguments-requires c =
 second_place : (at n : ℕ) → ◌≡◌ {A = Option ℕ} (Some at) (Some n) → at ≡ n
 second_place at n e = cc
 
-pub put-inputs-requires : goal.put-inputs-requires
-put-inputs-requires c =
-    let f = first_place c.args.self.now.letter c.in-ok-at.at c.args.into.now c.put-record.new.into (omega arith) c.in-ok-at.ensures.answer c.in-ok-at.ensures.after in
-    let g = second_place c.in-ok-at-2.at _ c.in-ok-at-2.ensures.place in
+pub put_inputs-requires : goal.put_inputs-requires
+put_inputs-requires c =
+    let f = first_place c.args.self.now.letter c.in_ok-at.at c.args.into.now c.put_record.new.into (omega arith) c.in_ok-at.ensures.answer c.in_ok-at.ensures.after in
+    let g = second_place c.in_ok-at-2.at _ c.in_ok-at-2.ensures.place in
     let l = length-map c.arguments.result.now argument_bytes in
     let m = ap length c.arguments.ensures in
     let n = ap length c.inputs.ensures in
@@ -51,24 +51,24 @@ returns c =
     let d = c.args.into.now in
     let ws = c.arguments.result.now in
     let ks = c.inputs.result.now in
-    let f = first_place a.letter c.in-ok-at.at d c.put-record.new.into (omega arith) c.in-ok-at.ensures.answer c.in-ok-at.ensures.after in
-    let args = c.in-ok-at-2.ensures in
-    let g : c.in-ok-at-2.at ≡ 2 + length ws * argument_size = second_place c.in-ok-at-2.at _ args.place ∙ ap (λ x. x + length ws * argument_size) f.0 in
-    let keys = c.in-ok-at-3.ensures in
-    let h : c.in-ok-at-3.at ≡ 2 + length ws * argument_size + length ks * input_size = second_place c.in-ok-at-3.at _ keys.place ∙ ap (λ x. x + length ks * input_size) g in
+    let f = first_place a.letter c.in_ok-at.at d c.put_record.new.into (omega arith) c.in_ok-at.ensures.answer c.in_ok-at.ensures.after in
+    let args = c.in_ok-at-2.ensures in
+    let g : c.in_ok-at-2.at ≡ 2 + length ws * argument_size = second_place c.in_ok-at-2.at _ args.place ∙ ap (λ x. x + length ws * argument_size) f.0 in
+    let keys = c.in_ok-at-3.ensures in
+    let h : c.in_ok-at-3.at ≡ 2 + length ws * argument_size + length ks * input_size = second_place c.in_ok-at-3.at _ keys.place ∙ ap (λ x. x + length ks * input_size) g in
     let l = length-map ws argument_bytes in
     let m = ap length c.arguments.ensures in
     let n = ap length c.inputs.ensures in
-    let e = put_yes End [] c.put-inputs.new.into c.put-record-2.new.into c.in-ok-at-3.at c.put-record-2.result refl (omega arith) c.put-record-2.ensures.answer c.put-record-2.ensures.after in
-    let b2 = args.bytes ∙ ap (λ x. paste c.put-record.new.into x (flat_map argument_text ws) (length ws * argument_size)) f.0 in
-    let b3 = keys.bytes ∙ ap (λ x. paste c.put-arguments.new.into x (flat_map input_record ks) (length ks * input_size)) g in
-    let b4 = e.1 ∙ ap (λ x. paste c.put-inputs.new.into x (0 ∷ []) 1) h in
+    let e = put_yes End [] c.put_inputs.new.into c.put_record-2.new.into c.in_ok-at-3.at c.put_record-2.result refl (omega arith) c.put_record-2.ensures.answer c.put_record-2.ensures.after in
+    let b2 = args.bytes ∙ ap (λ x. paste c.put_record.new.into x (flat_map argument_text ws) (length ws * argument_size)) f.0 in
+    let b3 = keys.bytes ∙ ap (λ x. paste c.put_arguments.new.into x (flat_map input_record ks) (length ks * input_size)) g in
+    let b4 = e.1 ∙ ap (λ x. paste c.put_inputs.new.into x (0 ∷ []) 1) h in
     let all = assembled d (operation_record a.letter) (flat_map argument_text ws) (flat_map input_record ks) (0 ∷ []) _ _ _ _ 2 (length ws * argument_size) (length ks * input_size) 1 refl (sym args.long) (sym keys.long) refl f.1 b2 b3 b4 in
     let texts : flat_map argument_text ws ≡ flat_map argument_record (act_of a).arguments = joined_map argument_record argument_bytes ws ∙ ap (flat_map argument_record) c.arguments.ensures in
     let same : operation_record a.letter ++ (flat_map argument_text ws ++ (flat_map input_record ks ++ 0 ∷ [])) ≡ action_text (act_of a) =
     ap (λ xs. operation_record a.letter ++ (xs ++ (flat_map input_record ks ++ 0 ∷ []))) texts
     ∙ ap (λ xs. operation_record a.letter ++ (flat_map argument_record (act_of a).arguments ++ (flat_map input_record xs ++ 0 ∷ []))) c.inputs.ensures in
     let t = length_text (act_of a) (each_argument (take a.argument_count a.arguments)) in
-    let size : c.in-ok-at-3.at + 1 ≡ length (action_text (act_of a)) = omega arith in
-    let done = large_enough (action_text (act_of a)) d c.put-record-2.new.into c.put-record-2.result (omega arith) (e.0 ∙ ap Some size) (all ∙ ap (λ xs. xs ++ drop (length xs) d) same) in
+    let size : c.in_ok-at-3.at + 1 ≡ length (action_text (act_of a)) = omega arith in
+    let done = large_enough (action_text (act_of a)) d c.put_record-2.new.into c.put_record-2.result (omega arith) (e.0 ∙ ap Some size) (all ∙ ap (λ xs. xs ++ drop (length xs) d) same) in
     record { answer = done.0; after = done.1 }

@@ -7,11 +7,11 @@ use Rattle.actions.specs.Words.{read_argument_body}
 use Rattle.actions.proofs.Scans.{record_rest, read_stop, read_more}
 use Rattle.actions.proofs.action.reading.read_arguments.Goals as goal
 
-pub returns-in-default : goal.returns-in-default
-returns-in-default c =
+pub returns-in_default : goal.returns-in_default
+returns-in_default c =
     record {
       within = omega arith;
-      value = read_stop read_argument (length c.loop-i.into - c.loop-i.i) c.loop-i.rest.now (map argument_bytes (take c.loop-i.i c.loop-i.into)) _ c.loop-i.invariant c.in-default.ensures;
+      value = read_stop read_argument (length c.loop-i.into - c.loop-i.i) c.loop-i.rest.now (map argument_bytes (take c.loop-i.i c.loop-i.into)) _ c.loop-i.invariant c.in_default.ensures;
     }
 
 pub loop-i-preserved : goal.loop-i-preserved

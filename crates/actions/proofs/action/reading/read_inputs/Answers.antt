@@ -6,11 +6,11 @@ use Rattle.actions.specs.Actions.{several, read_input, input_size}
 use Rattle.actions.proofs.Scans.{record_rest, read_stop, read_more}
 use Rattle.actions.proofs.action.reading.read_inputs.Goals as goal
 
-pub returns-in-default : goal.returns-in-default
-returns-in-default c =
+pub returns-in_default : goal.returns-in_default
+returns-in_default c =
     record {
       within = omega arith;
-      value = read_stop read_input (length c.loop-i.into - c.loop-i.i) c.loop-i.rest.now (take c.loop-i.i c.loop-i.into) _ c.loop-i.invariant c.in-default.ensures;
+      value = read_stop read_input (length c.loop-i.into - c.loop-i.i) c.loop-i.rest.now (take c.loop-i.i c.loop-i.into) _ c.loop-i.invariant c.in_default.ensures;
     }
 
 pub loop-i-preserved : goal.loop-i-preserved

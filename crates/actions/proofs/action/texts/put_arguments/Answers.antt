@@ -11,18 +11,18 @@ loop-argument-init c = put_none argument_text argument_size c.args.arguments.now
 
 pub loop-argument-preserved : goal.loop-argument-preserved
 loop-argument-preserved c =
-    put_more argument_text c.args.arguments.now c.loop-argument.argument-index c.argument-item.result c.args.into.now c.loop-argument.into c.put-record.new.into
-    c.args.at c.loop-argument.place Argument c.body.result (Some c.in-ok-place.place) (omega arith) c.argument-item.is
+    put_more argument_text c.args.arguments.now c.loop-argument.argument-index c.argument-item.result c.args.into.now c.loop-argument.into c.put_record.new.into
+    c.args.at c.loop-argument.place Argument c.body.result (Some c.in_ok-place.place) (omega arith) c.argument-item.is
     (ap (record_bytes Argument) (sym c.body.ensures)) (omega arith) c.requires c.loop-argument.invariant
-    c.in-ok-place.ensures.answer c.in-ok-place.ensures.after
+    c.in_ok-place.ensures.answer c.in_ok-place.ensures.after
 
-pub returns-in-err-place : goal.returns-in-err-place
-returns-in-err-place c =
-    absurd (put_refused argument_text argument_size _ c.args.into.now c.put-record.new.into c.args.at
-    (put_more argument_text c.args.arguments.now c.loop-argument.argument-index c.argument-item.result c.args.into.now c.loop-argument.into c.put-record.new.into
+pub returns-in_err-place : goal.returns-in_err-place
+returns-in_err-place c =
+    absurd (put_refused argument_text argument_size _ c.args.into.now c.put_record.new.into c.args.at
+    (put_more argument_text c.args.arguments.now c.loop-argument.argument-index c.argument-item.result c.args.into.now c.loop-argument.into c.put_record.new.into
     c.args.at c.loop-argument.place Argument c.body.result None (omega arith) c.argument-item.is
     (ap (record_bytes Argument) (sym c.body.ensures)) (omega arith) c.requires c.loop-argument.invariant
-    c.in-err-place.ensures.answer c.in-err-place.ensures.after))
+    c.in_err-place.ensures.answer c.in_err-place.ensures.after))
 
 pub returns : goal.returns
 returns c =

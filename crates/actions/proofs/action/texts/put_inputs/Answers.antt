@@ -10,18 +10,18 @@ loop-key-init c = put_none input_record input_size c.args.inputs.now c.args.into
 
 pub loop-key-preserved : goal.loop-key-preserved
 loop-key-preserved c =
-    put_more input_record c.args.inputs.now c.loop-key.key-index c.key-item.result c.args.into.now c.loop-key.into c.put-record.new.into
-    c.args.at c.loop-key.place Input c.to-bytes.result (Some c.in-ok-place.place) (omega arith) c.key-item.is
-    (ap (record_bytes Input) (sym c.to-bytes.ensures)) (omega arith) c.requires c.loop-key.invariant
-    c.in-ok-place.ensures.answer c.in-ok-place.ensures.after
+    put_more input_record c.args.inputs.now c.loop-key.key-index c.key-item.result c.args.into.now c.loop-key.into c.put_record.new.into
+    c.args.at c.loop-key.place Input c.to_bytes.result (Some c.in_ok-place.place) (omega arith) c.key-item.is
+    (ap (record_bytes Input) (sym c.to_bytes.ensures)) (omega arith) c.requires c.loop-key.invariant
+    c.in_ok-place.ensures.answer c.in_ok-place.ensures.after
 
-pub returns-in-err-place : goal.returns-in-err-place
-returns-in-err-place c =
-    absurd (put_refused input_record input_size _ c.args.into.now c.put-record.new.into c.args.at
-    (put_more input_record c.args.inputs.now c.loop-key.key-index c.key-item.result c.args.into.now c.loop-key.into c.put-record.new.into
-    c.args.at c.loop-key.place Input c.to-bytes.result None (omega arith) c.key-item.is
-    (ap (record_bytes Input) (sym c.to-bytes.ensures)) (omega arith) c.requires c.loop-key.invariant
-    c.in-err-place.ensures.answer c.in-err-place.ensures.after))
+pub returns-in_err-place : goal.returns-in_err-place
+returns-in_err-place c =
+    absurd (put_refused input_record input_size _ c.args.into.now c.put_record.new.into c.args.at
+    (put_more input_record c.args.inputs.now c.loop-key.key-index c.key-item.result c.args.into.now c.loop-key.into c.put_record.new.into
+    c.args.at c.loop-key.place Input c.to_bytes.result None (omega arith) c.key-item.is
+    (ap (record_bytes Input) (sym c.to_bytes.ensures)) (omega arith) c.requires c.loop-key.invariant
+    c.in_err-place.ensures.answer c.in_err-place.ensures.after))
 
 pub returns : goal.returns
 returns c =

@@ -5,4 +5,4 @@ use Rattle.actions.proofs.argument.Argument.body.Goals as goal
 pub returns : goal.returns
 returns c =
     let a = c.args.self.now in
-    room_body a.bytes c.copy-from-slice.new.self a.len (omega arith) a.short a.padded c.copy-from-slice.ensures.after
+    room_body a.bytes c.copy_from_slice.new.self a.len (omega arith) a.short a.padded c.copy_from_slice.ensures.after

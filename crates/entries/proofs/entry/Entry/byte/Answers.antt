@@ -12,7 +12,7 @@ returns-then-i-from c =
     let n = block_count e.size in
     let d = get_or-exactly e.size (joined_bodies n bs) c.args.i (omega arith) in
     let b = get_or-bodies n bs c.args.i (omega arith) in
-    c.value-byte.ensures ∙ sym (d ∙ b)
+    c.value_byte.ensures ∙ sym (d ∙ b)
 
 pub returns-else-i-from : goal.returns-else-i-from
 returns-else-i-from c =

@@ -5,5 +5,5 @@ use Rattle.entries.proofs.entry.reading.read_entry.Goals as goal
 
 pub returns : goal.returns
 returns c =
-    entry_made c.args.bytes.now c.in-ok-name.behind.now _ (key_in c.in-ok-name.name.now) c.in-ok-name.size c.block-count-count.result c.in-ok-name.ensures c.block-count-count.ensures
-    c.if-not-whole-blocks.ensures.answer c.if-not-zero-behind.ensures refl
+    entry_made c.args.bytes.now c.in_ok-name.behind.now _ (key_in c.in_ok-name.name.now) c.in_ok-name.size c.block_count-count.result c.in_ok-name.ensures c.block_count-count.ensures
+    c.if-not-whole_blocks.ensures.answer c.if-not-zero_behind.ensures refl

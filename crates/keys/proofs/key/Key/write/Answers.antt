@@ -17,7 +17,7 @@ loop-i-preserved c =
     let l : length (take k (drop (8 * i) ys)) ≡ 8 = simp (length-take, length-drop) (omega arith) in
     let b = ap (λ n. big_endian n (get_or ws i 0)) l in
     write_more ws c.args.into.now ys _ i (omega arith) c.loop-i.invariant
-    (put_mid-paste (8 * i) k ys c.write-number.new.into (big_endian 8 (get_or ws i 0)) 8 (c.write-number.ensures ∙ b) (omega arith) refl)
+    (put_mid-paste (8 * i) k ys c.write_number.new.into (big_endian 8 (get_or ws i 0)) 8 (c.write_number.ensures ∙ b) (omega arith) refl)
 
 pub returns : goal.returns
 unfolding key_bytes
@@ -29,5 +29,5 @@ returns c =
     let t = eq-eqb (length c.args.into.now) 36 (omega arith) in
     let last =
     write_last c.words-words.result c.args.into.now ys _ c.loop-i.i n (omega arith) (omega arith) (omega arith) c.loop-i.invariant
-    (put_mid-paste 32 4 ys c.write-number-2.new.into (big_endian 4 n) 4 (c.write-number-2.ensures ∙ b) refl refl) in
+    (put_mid-paste 32 4 ys c.write_number-2.new.into (big_endian 4 n) 4 (c.write_number-2.ensures ∙ b) refl refl) in
     rw t (record { answer = refl; after = last ∙ ap (λ ws. flat_map (big_endian 8) ws ++ big_endian 4 n) c.words-words.ensures })

@@ -13,7 +13,7 @@ loop-i-preserved c =
     let b = get_or bytes i 0 in
     let s = sum_by_more (λ x. x) bytes i 0 (omega arith) in
     let w = weighted_more bytes i (omega arith) in
-    let small : b ≤ 255 = omega (arith, c.type-inv.bytes i) in
+    let small : b ≤ 255 = omega (arith, c.type_inv.bytes i) in
     let near : i + 1 ≤ 65536 = omega arith in
     let product : b * (i + 1) ≤ 255 * 65536 = mul-le-mul small near in
     rw (c.from.ensures, c.from-sum.ensures)

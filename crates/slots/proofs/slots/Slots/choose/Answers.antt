@@ -8,7 +8,7 @@ pub returns-in-Some : goal.returns-in-Some
 returns-in-Some c =
     let s = c.args.self.now in
     let k = c.args.key.now in
-    let e : lowest_slot k (bytes_of s) ≡ Some c.in-Some.i = ap (lowest_slot k) (sym c.as-slice.ensures.value) ∙ sym c.in-Some.ensures in
+    let e : lowest_slot k (bytes_of s) ≡ Some c.in-Some.i = ap (lowest_slot k) (sym c.as_slice.ensures.value) ∙ sym c.in-Some.ensures in
     record {
       place = sym (ap (λ o. unwrap_or o s.cursor) e);
       within = (lowest_some k (bytes_of s) c.in-Some.i e).0;

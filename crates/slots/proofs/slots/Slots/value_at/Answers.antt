@@ -13,5 +13,5 @@ pub returns : goal.returns
 returns c =
     let bs = bytes_of c.args.self.now in
     let i = c.args.i in
-    let es = c.slot-slot.ensures.value ∙ ap (slot i) c.as-slice.ensures.value in
-    ap Some (c.slot_value.ensures ∙ ap slot_value es) ∙ sym (pair_value_at i bs (omega (arith, c.count.ensures)) (ap is_taken (sym es) ∙ sym c.if-not-is-taken.ensures))
+    let es = c.slot-slot.ensures.value ∙ ap (slot i) c.as_slice.ensures.value in
+    ap Some (c.slot_value.ensures ∙ ap slot_value es) ∙ sym (pair_value_at i bs (omega (arith, c.count.ensures)) (ap is_taken (sym es) ∙ sym c.if-not-is_taken.ensures))

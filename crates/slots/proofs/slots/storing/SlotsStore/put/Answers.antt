@@ -13,13 +13,13 @@ returns c =
     let s = c.args.self.now in
     let k = c.args.key.now in
     let v = c.args.value.now in
-    let short : length v ≤ value_room = c.if-value-gt-VALUE-ROOM.false in
-    let same : c.as-mut-slice.result.now ≡ bytes_of s = c.as-mut-slice.ensures.value ∙ ap vec_items c.choose-place.ensures.bytes in
-    let wrote : c.write-slot.new.bytes ≡ with_slot (put_place k s) k v (bytes_of s) = c.write-slot.ensures ∙ (ap (λ i. with_slot i k v c.as-mut-slice.result.now) c.choose-place.ensures.place ∙ ap (with_slot (put_place k s) k v) same) in
+    let short : length v ≤ value_room = c.if-value-gt-VALUE_ROOM.false in
+    let same : c.as_mut_slice.result.now ≡ bytes_of s = c.as_mut_slice.ensures.value ∙ ap vec_items c.choose-place.ensures.bytes in
+    let wrote : c.write_slot.new.bytes ≡ with_slot (put_place k s) k v (bytes_of s) = c.write_slot.ensures ∙ (ap (λ i. with_slot i k v c.as_mut_slice.result.now) c.choose-place.ensures.place ∙ ap (with_slot (put_place k s) k v) same) in
     let fits = slot-within (length (bytes_of s)) (put_place k s) (place-within s k) in
-    let long : length c.write-slot.new.bytes ≡ length (bytes_of s) = ap length wrote ∙ length-with_slot (put_place k s) k v (bytes_of s) short fits in
-    let len : length c.write-slot.new.bytes ≡ vec_len c.choose-place.new.self.bytes = long ∙ (sym (ap length same) ∙ c.as-mut-slice.ensures.len) in
+    let long : length c.write_slot.new.bytes ≡ length (bytes_of s) = ap length wrote ∙ length-with_slot (put_place k s) k v (bytes_of s) short fits in
+    let len : length c.write_slot.new.bytes ≡ vec_len c.choose-place.new.self.bytes = long ∙ (sym (ap length same) ∙ c.as_mut_slice.ensures.len) in
     record {
-      does = λ _. record { room = short; answer = refl; bytes = with_items_is c.choose-place.new.self.bytes c.write-slot.new.bytes len ∙ wrote; cursor = c.choose-place.ensures.cursor };
+      does = λ _. record { room = short; answer = refl; bytes = with_items_is c.choose-place.new.self.bytes c.write_slot.new.bytes len ∙ wrote; cursor = c.choose-place.ensures.cursor };
       refuses = λ other. absurd (other short);
     }
