@@ -1,4 +1,4 @@
-use Rattle.std.proofs.Common.{◌≡◌, ℕ, ◌%◌, ◌^◌, ◌<◌, ◌≤◌, List, [], ◌∷◌, length, sym, refl, ap, ◌∙◌, mod-eq_of_lt, arith}
+use Rattle.std.proofs.Common.{◌≡◌, ℕ, ◌%◌, ◌^◌, ◌<◌, ◌≤◌, List, [], ◌∷◌, length, ap, ◌∙◌, mod-eq_of_lt, arith}
 use Rattle.std.specs.Int.Digits.{AllBelowBase}
 use Rattle.keys.specs.Digests.{fnv1a, tally_sum, tally_weighted}
 use Rattle.keys.specs.Keys.{make_key, key_words}

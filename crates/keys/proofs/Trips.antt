@@ -1,20 +1,16 @@
-use Rattle.std.proofs.Common.{◌≡◌, ℕ, zero, suc, ◌+◌, ◌-◌, ◌*◌, ◌%◌, ◌^◌, ◌<◌, ◌≤◌, Bool, true, false, cond, ◌&&◌, eqb, List, [], ◌∷◌, ◌++◌, length, get_or, take, drop, Some, None, Decides, sym, refl, ap, ◌∙◌, subst, mod-eq_of_lt, arith}
-use native.Mathlib.Bridge.{le_prop}
-use mathlib.Core.HLevel.{is_prop→PathP}
+use Rattle.std.proofs.Common.{◌≡◌, ℕ, zero, suc, ◌+◌, ◌*◌, ◌%◌, ◌^◌, ◌<◌, ◌≤◌, Bool, true, false, cond, eqb, List, [], ◌∷◌, ◌++◌, length, get_or, take, drop, Some, None, sym, refl, ap, ◌∙◌, mod-eq_of_lt, arith}
 use lib.Seq.{paste}
 use Rattle.std.specs.List.{flat_map, AllByRecursion as All}
 use Rattle.std.specs.Int.Digits.{number_from_digits, AllBelowBase}
-use Rattle.std.specs.Str.{bytes_eq}
 use Rattle.std.proofs.lemmas.Int.Digits.{number_lt}
 use Rattle.std.proofs.ByRecursion.{All-append, All-take, All-drop}
-use Rattle.std.proofs.lemmas.Slice.Eq.{bytes_eq-Decides}
 use Rattle.std.proofs.lemmas.List.{append_assoc, append-nil, length-append, length-take-le, length-drop, drop-drop, drop_all, take_at, drop_at, take-append-drop, take_more, take_all, flat_map_more}
-use Rattle.std.proofs.lemmas.Bool.{eq-eqb, eqb-true}
-use Rattle.std.proofs.lemmas.Bool.Decides.{Decides-and, Decides-eqb}
+use Rattle.std.proofs.lemmas.Bool.{eqb-true}
 use Rattle.numbers.specs.BigEndian.{big_endian}
 use Rattle.numbers.proofs.Trips.{length-big_endian, under_big_endian, number_big_endian, big_endian_number}
 use Rattle.keys.specs.declared.key.Key.{Key}
-use Rattle.keys.specs.Keys.{key_size, words_size, make_key, key_words, key_bytes, words_of, read_key, same_key}
+use Rattle.keys.specs.Keys.{key_size, words_size, make_key, key_words, key_bytes, words_of, read_key}
+use Rattle.keys.specs.SameKeys.{same_parts}
 
 -- the bytes of words, eight to each
 pub length_words : (ws : List ℕ) → length (flat_map (big_endian 8) ws) ≡ 8 * length ws
@@ -79,26 +75,6 @@ words_of_more (suc i) bs =
     let e : drop (8 * i) (drop 8 bs) ≡ drop (8 * suc i) bs = drop-drop (8 * i) 8 bs ∙ ap (λ k. drop k bs) (omega arith) in
     let s : suc i + 1 ≡ suc (i + 1) = omega arith in
     ap (λ n. words_of n bs) s ∙ ap (λ ws. number_from_digits 256 (take 8 bs) ∷ ws) (r ∙ ap (λ xs. words_of i (drop 8 bs) ++ number_from_digits 256 (take 8 xs) ∷ []) e)
-
--- keys of equal words and equal counts are one key
-pub same_parts : (j k : Key) → key_words j ≡ key_words k → j.count ≡ k.count → j ≡ k
-same_parts j k w c =
-    let p : j.first ≡ k.first = ap (λ ws. get_or ws 0 0) w in
-    let q : j.second ≡ k.second = ap (λ ws. get_or ws 1 0) w in
-    let r : j.third ≡ k.third = ap (λ ws. get_or ws 2 0) w in
-    let s : j.fourth ≡ k.fourth = ap (λ ws. get_or ws 3 0) w in
-    λ i. record {
-      first = p i;
-      second = q i;
-      third = r i;
-      fourth = s i;
-      count = c i;
-      first_fits = is_prop→PathP (λ i. p i < 2 ^ 64) (λ i. le_prop) j.first_fits k.first_fits i;
-      second_fits = is_prop→PathP (λ i. q i < 2 ^ 64) (λ i. le_prop) j.second_fits k.second_fits i;
-      third_fits = is_prop→PathP (λ i. r i < 2 ^ 64) (λ i. le_prop) j.third_fits k.third_fits i;
-      fourth_fits = is_prop→PathP (λ i. s i < 2 ^ 64) (λ i. le_prop) j.fourth_fits k.fourth_fits i;
-      count_fits = is_prop→PathP (λ i. c i < 2 ^ 32) (λ i. le_prop) j.count_fits k.count_fits i;
-    }
 
 -- numbers that fit are not cut
 pub uncut : (k : Key) (ws : List ℕ) (n : ℕ) → length ws ≡ 4 → All (λ w. w < 2 ^ 64) ws → n < 2 ^ 32 → key_words k ≡ ws → k.count ≡ n → make_key ws n ≡ k
@@ -169,12 +145,6 @@ only_from bs k false t u h = let z : ◌≡◌ {A = ℕ} 0 1 = cc in absurd (ome
 
 pub only : (bs : List ℕ) (k : Key) → AllBelowBase 256 bs → read_key bs ≡ Some k → bs ≡ key_bytes k
 only bs k u h = only_from bs k (eqb (length bs) key_size) refl u h
-
--- the test of two keys decides whether they are equal
-pub same_key_decides : (j k : Key) → Decides (same_key j k) (j ≡ k)
-same_key_decides j k =
-    let d = Decides-and _ _ (bytes_eq-Decides (key_words j) (key_words k)) (Decides-eqb j.count k.count) in
-    (λ t. same_parts j k (d.0 t).0 (d.0 t).1, λ e. d.1 (ap key_words e, ap (λ (x : Key). x.count) e))
 
 -- one word more is written behind those before it
 pub write_more : (ws xs ys out : List ℕ) (i : ℕ) → i < length ws → ys ≡ flat_map (big_endian 8) (take i ws) ++ drop (8 * i) xs → out ≡ paste ys (8 * i) (big_endian 8 (get_or ws i 0)) 8 → out ≡ flat_map (big_endian 8) (take (i + 1) ws) ++ drop (8 * (i + 1)) xs

@@ -1,3 +1,4 @@
 pub mod Keys
+pub mod SameKeys
 pub mod Digests
 pub mod Detects

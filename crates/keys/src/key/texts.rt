@@ -1,20 +1,22 @@
 //! Making keys, comparing them, and their bytes.
 
 ghost use Rattle.std.specs.Prelude.{◌≡◌, length, if◌then◌else◌, Decides, ◌==◌, nat_eq};
-ghost use Rattle.std.specs.Ordering.{on, eq_of_both};
-ghost use Rattle.keys.specs.Keys.{key_size, make_key, key_words, key_bytes, read_key};
-ghost use Rattle.std.specs.Cmp.Rules.{comparing};
-ghost use Rattle.std.proofs.Common.{rules, arith};
+ghost use Rattle.keys.specs.Keys.{key_size, make_key, key_words, key_bytes, read_key, same_key};
+ghost use Rattle.std.specs.Cmp.{decided, partial_equiv_from_equiv};
+ghost use Rattle.keys.specs.SameKeys.{same_key_decides};
 
 use super::Key;
 use numbers::{read_number, write_number};
 
 impl PartialEq for Key {
-    ghost eq = { eq_of_both (on (λ v. v.first) nat_eq) (eq_of_both (on (λ v. v.second) nat_eq) (eq_of_both (on (λ v. v.third) nat_eq) (eq_of_both (on (λ v. v.fourth) nat_eq) (on (λ v. v.count) nat_eq)))) };
+    ghost eq = { same_key };
 
-    ghost laws = { first_of (Prim.search (comparing, rules), Prim.grind (arith, Self.row.coded.inj)) };
+    ghost laws = { partial_equiv_from_equiv (decided same_key same_key_decides) };
 
-    fn eq(&self, other: &Key) -> bool {
+    fn eq(&self, other: &Key) -> bool
+        ensures value { result ≡ same_key self.now other.now }
+        ensures equal { Decides result (self.now ≡ other.now) }
+    {
         self.first == other.first
             && self.second == other.second
             && self.third == other.third

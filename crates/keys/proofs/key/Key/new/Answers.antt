@@ -1,6 +1,6 @@
-use Rattle.std.proofs.Common.{◌≡◌, ℕ, ◌%◌, ◌^◌, ◌<◌, List, [], ◌∷◌, get_or, sym, refl, ap, ◌∙◌, mod-eq_of_lt, arith}
+use Rattle.std.proofs.Common.{◌≡◌, ◌^◌, ◌<◌, [], ◌∷◌, get_or, sym, mod-eq_of_lt, arith}
 use Rattle.keys.specs.Keys.{make_key, key_words}
-use Rattle.keys.proofs.Trips.{same_parts}
+use Rattle.keys.specs.SameKeys.{same_parts}
 use Rattle.keys.proofs.key.Key.new.Goals as goal
 
 pub returns : goal.returns

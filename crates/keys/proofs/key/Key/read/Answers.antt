@@ -1,7 +1,7 @@
-use Rattle.std.proofs.Common.{◌≡◌, ℕ, ◌+◌, ◌-◌, ◌*◌, ◌^◌, ◌<◌, List, [], ◌∷◌, ◌++◌, length, take, drop, Some, Option, sym, ap, ◌∙◌, arith, length-set}
+use Rattle.std.proofs.Common.{◌≡◌, ℕ, ◌+◌, ◌-◌, ◌*◌, ◌^◌, ◌<◌, List, [], ◌∷◌, ◌++◌, length, take, drop, Some, sym, ap, ◌∙◌, arith, length-set}
 use Rattle.std.specs.Int.Digits.{number_from_digits}
 use Rattle.std.proofs.lemmas.Int.Digits.{number_lt}
-use Rattle.std.proofs.ByRecursion.{All-from_get_or, All-take, All-drop}
+use Rattle.std.proofs.ByRecursion.{All-from_get_or, All-drop}
 use Rattle.std.proofs.lemmas.List.{length-take, length-drop, take_more_set, take_all}
 use Rattle.std.proofs.lemmas.Bool.{eq-eqb}
 use Rattle.numbers.specs.BigEndian.{read_big_endian}

@@ -1,4 +1,4 @@
-use Rattle.std.proofs.Common.{◌≡◌, ◌*◌, length, take}
+use Rattle.std.proofs.Common.{◌≡◌, length, take}
 use Rattle.keys.specs.Keys.{words_of}
 use Rattle.keys.proofs.key.Key.read.Given as goal
 
