@@ -3,7 +3,7 @@ use Rattle.std.proofs.lemmas.Bool.{eqb-true, eqb-false}
 use Rattle.actions.specs.Views.{argument_bytes}
 use Rattle.actions.proofs.Makes.{no_letter, many_arguments, no_input, many_inputs, made, copied, same_act}
 use Rattle.actions.proofs.action.Action.new.Goals as goal
-use Rattle.actions.proofs.action.Action.new.Goals.{then-not-is_letter-via-then-not-is_letter, then-not-is_letter-via-else-not-is-letter+then-arguments-gt2, then-not-is_letter-via-else-not-is-letter+else-arguments-gt2+then-is_empty, then-not-is_letter-via-else-not-is-letter+else-arguments-gt2+else-is-empty+then-inputs-gt4}
+use Rattle.actions.proofs.action.Action.new.Goals.{then-not-is_letter-via-then-not-is_letter, then-not-is_letter-via-else-not-is_letter+then-arguments-gt2, then-not-is_letter-via-else-not-is_letter+else-arguments-gt2+then-is_empty, then-not-is_letter-via-else-not-is_letter+else-arguments-gt2+else-is_empty+then-inputs-gt4}
 
 pub returns-then-not-is_letter : goal.returns-then-not-is_letter
 returns-then-not-is_letter c =
@@ -12,9 +12,9 @@ returns-then-not-is_letter c =
     let ks = c.args.inputs.now in
     elim c.then-not-is_letter.branch [
       | then-not-is_letter-via-then-not-is_letter w ↦ no_letter l ws ks (sym w.if-not-is_letter.ensures)
-      | then-not-is_letter-via-else-not-is-letter+then-arguments-gt2 w ↦ many_arguments l ws ks w.if-arguments-gt2.true
-      | then-not-is_letter-via-else-not-is-letter+else-arguments-gt2+then-is_empty w ↦ no_input l ws ks (eqb-true (length ks) 0 (sym w.if-is_empty.ensures))
-      | then-not-is_letter-via-else-not-is-letter+else-arguments-gt2+else-is-empty+then-inputs-gt4 w ↦ many_inputs l ws ks w.if-inputs-gt4.true
+      | then-not-is_letter-via-else-not-is_letter+then-arguments-gt2 w ↦ many_arguments l ws ks w.if-arguments-gt2.true
+      | then-not-is_letter-via-else-not-is_letter+else-arguments-gt2+then-is_empty w ↦ no_input l ws ks (eqb-true (length ks) 0 (sym w.if-is_empty.ensures))
+      | then-not-is_letter-via-else-not-is_letter+else-arguments-gt2+else-is_empty+then-inputs-gt4 w ↦ many_inputs l ws ks w.if-inputs-gt4.true
     ]
 
 pub returns : goal.returns

@@ -10,7 +10,7 @@ invariant_of-result c =
     let short = argument_parts bs (sym c.if-not-is_argument.ensures) in
     let f = room_front bs c.copy_from_slice.new.self _ c.copy_from_slice.ensures.after (omega arith) refl in
     let good = ap is_argument f.0 ∙ sym c.if-not-is_argument.ensures in
-    (omega arith, (good, (f.1, tt)))
+    record { short = omega arith; good = good; padded = f.1 }
 
 pub returns : goal.returns
 returns c =
