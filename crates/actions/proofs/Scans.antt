@@ -1,8 +1,8 @@
-use Rattle.std.proofs.Common.{◌≡◌, ℕ, zero, suc, ◌+◌, ◌-◌, ◌<◌, ◌≤◌, Bool, true, false, cond, List, [], ◌∷◌, ◌++◌, map, length, take, drop, set, Some, None, Option, sym, refl, ap, ◌∙◌, arith}
+use Rattle.std.proofs.Common.{◌≡◌, ℕ, zero, suc, ◌-◌, List, [], ◌∷◌, ◌++◌, length, take, drop, Some, None, Option, sym, refl, ap, ◌∙◌, arith}
 use Rattle.std.specs.Option.{option_map}
-use Rattle.std.proofs.lemmas.List.{append-nil, append_assoc, drop_at, take_rest, take_more_set, map_push}
+use Rattle.std.proofs.lemmas.List.{append-nil, append_assoc, drop_at, take_rest}
 use Rattle.records.specs.declared.kind.Kind.{Kind}
-use Rattle.records.specs.Records.{Split, record_bytes, record_size, body_length, split_record, and_then}
+use Rattle.records.specs.Records.{Split, record_bytes, record_size, split_record}
 use Rattle.records.proofs.Fronts.{split_only}
 use Rattle.records.proofs.Trips.{then_some}
 use Rattle.actions.specs.Actions.{several, or_none, before, all_before, part_in, read_record}

@@ -1,16 +1,15 @@
-use Rattle.std.proofs.Common.{◌≡◌, ℕ, suc, ◌+◌, ◌-◌, ◌*◌, ◌<◌, ◌≤◌, Bool, true, false, cond, ◌&&◌, leb, List, [], ◌∷◌, ◌++◌, map, length, take, drop, replicate, Some, None, Option, sym, refl, ap, ◌∙◌, arith}
+use Rattle.std.proofs.Common.{◌≡◌, ℕ, ◌+◌, ◌-◌, ◌*◌, ◌<◌, ◌≤◌, true, false, cond, leb, List, [], ◌∷◌, ◌++◌, map, length, take, drop, replicate, Some, None, Option, sym, refl, ap, ◌∙◌, arith}
 use lib.Seq.{paste}
 use Rattle.std.specs.List.{flat_map}
 use Rattle.std.proofs.lemmas.List.Edits.{paste-paste, paste_all}
 use Rattle.std.proofs.lemmas.List.{length-append, length-replicate, append_assoc, take_at}
-use Rattle.std.proofs.lemmas.Bool.{and_parts, leb-true, lt-leb, le-leb}
-use Rattle.keys.specs.Keys.{key_bytes}
+use Rattle.std.proofs.lemmas.Bool.{and_parts, lt-leb, le-leb}
 use Rattle.keys.specs.declared.key.Key.{Key}
 use Rattle.keys.proofs.Trips.{length-key_bytes}
 use Rattle.records.specs.Results.{front_size, with_front}
 use Rattle.lists.specs.Each.{each}
-use Rattle.actions.specs.Words.{is_letter, is_argument, argument_body}
-use Rattle.actions.specs.Actions.{Act, is_action, action_text, action_size, operation_record, argument_record, input_record, argument_size, input_size}
+use Rattle.actions.specs.Words.{is_argument, argument_body}
+use Rattle.actions.specs.Actions.{Act, action_text, action_size, argument_record, input_record, argument_size, input_size}
 use Rattle.actions.proofs.Tests.{argument_parts}
 
 pub length-argument_body : (w : List ℕ) → length w ≤ 16 → length (argument_body w) ≡ 17

@@ -3,7 +3,7 @@ use Rattle.std.proofs.Common.{sym, ap, subst, ◌∙◌, inl, inr, arith}
 use Rattle.std.proofs.lemmas.Bool.{both_ways}
 use Rattle.keys.specs.Keys.{same_key}
 use Rattle.keys.specs.declared.key.Key.{Key}
-use Rattle.keys.proofs.Trips.{same_key_decides}
+use Rattle.keys.specs.SameKeys.{same_key_decides}
 use Rattle.lists.specs.Among.{Among}
 use Rattle.entries.specs.Entries.{Logged}
 use Rattle.log_store.specs.Contents.{later, value_under, last_value}

@@ -14,6 +14,7 @@ use Rattle.keys.specs.Digests.{value_room}
 use Rattle.keys.specs.Keys.{key_size, key_bytes, read_key, same_key}
 use Rattle.keys.specs.declared.key.Key.{Key}
 use Rattle.keys.proofs.Trips as KeysTrip
+use Rattle.keys.specs.SameKeys.{same_key_decides}
 use Rattle.stores.specs.Numbers.{padded}
 use Rattle.slots.specs.Table.{slot_size, slot_count, slot, Pair, slot_length, is_taken, slot_value, slot_key, read_slot, pair_at, pair_value, slot_bytes, is_key, slot_has, first_slot, lowest_slot, Held, with_slot}
 use Rattle.slots.specs.Writes.{length-slot_bytes}
@@ -57,7 +58,7 @@ lowest_none k bs h j low = none_from k (slot_count (length bs)) 0 bs h j (omega 
 
 key_is : (k : Key) (o : Option Key) → is_key k o ≡ true → o ≡ Some k
 key_is k None t = absurd (both_ways false refl t)
-key_is k (Some j) t = ap Some ((KeysTrip.same_key_decides j k).0 t)
+key_is k (Some j) t = ap Some ((same_key_decides j k).0 t)
 
 -- a slot that has a key has a pair of it, and the other way round
 pub has_pair : (k : Key) (s : List ℕ) → slot_has k s ≡ true → (read_slot s ≡ Some (record { key = k; value = slot_value s })) × (slot_length s ≤ value_room)
@@ -79,7 +80,7 @@ pub pair_has : (s : List ℕ) (k : Key) (v : List ℕ) → read_slot s ≡ Some 
 pair_has s k v h =
     let p = pair_from s k v (is_taken s) (slot_key s) h in
     let q = and_parts (slice_index s 0 == 1) (nat_le (slot_length s) value_room) p.0 in
-    let same = (KeysTrip.same_key_decides k k).1 refl in
+    let same = (same_key_decides k k).1 refl in
     (and_from _ _ p.0 (ap (is_key k) p.1 ∙ same), p.2, leb-true (slot_length s) value_room q.1)
 
 -- behind the last slot there is no pair, and a slot that is taken has its value

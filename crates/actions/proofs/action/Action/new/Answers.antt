@@ -1,4 +1,4 @@
-use Rattle.std.proofs.Common.{map, length, Some, sym, ap, ◌∙◌, arith}
+use Rattle.std.proofs.Common.{map, length, Some, sym, ap, arith}
 use Rattle.std.proofs.lemmas.Bool.{eqb-true, eqb-false}
 use Rattle.actions.specs.Views.{argument_bytes}
 use Rattle.actions.proofs.Makes.{no_letter, many_arguments, no_input, many_inputs, made, copied, same_act}

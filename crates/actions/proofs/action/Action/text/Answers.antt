@@ -1,4 +1,4 @@
-use Rattle.std.proofs.Common.{◌≡◌, ℕ, ◌≤◌, List, length, take, replicate, refl, arith}
+use Rattle.std.proofs.Common.{ℕ, ◌≤◌, List, length, take, replicate, arith}
 use Rattle.std.proofs.lemmas.List.{length-map, length-take}
 use Rattle.actions.specs.Actions.{action_text, longest_text}
 use Rattle.actions.specs.Views.{argument_bytes, act_of}

@@ -1,4 +1,4 @@
-use Rattle.std.proofs.Common.{sym, ap, ◌∙◌, arith}
+use Rattle.std.proofs.Common.{ap, ◌∙◌}
 use Rattle.std.specs.Option.{option_map}
 use Rattle.actions.specs.Views.{argument_bytes}
 use Rattle.actions.proofs.Bodies.{body_long, body_bad, body_dirty, body_good}

@@ -1,7 +1,7 @@
-use Rattle.std.proofs.Common.{◌≡◌, suc, ◌+◌, ◌-◌, map, length, take, set, sym, refl, ap, ◌∙◌, arith}
+use Rattle.std.proofs.Common.{◌+◌, ◌-◌, map, length, take, set, refl, ap, ◌∙◌, arith}
 use Rattle.std.proofs.lemmas.List.{take_more_set, map_push, length-set}
 use Rattle.records.specs.declared.kind.Kind.TheVariants.{Argument}
-use Rattle.actions.specs.Actions.{several, read_argument, argument_size}
+use Rattle.actions.specs.Actions.{read_argument, argument_size}
 use Rattle.actions.specs.Views.{argument_bytes}
 use Rattle.actions.specs.Words.{read_argument_body}
 use Rattle.actions.proofs.Scans.{record_rest, read_stop, read_more}

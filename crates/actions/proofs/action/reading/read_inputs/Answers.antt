@@ -1,8 +1,8 @@
-use Rattle.std.proofs.Common.{◌≡◌, suc, ◌+◌, ◌-◌, length, take, set, sym, refl, ap, ◌∙◌, arith}
+use Rattle.std.proofs.Common.{◌+◌, ◌-◌, length, take, set, refl, arith}
 use Rattle.std.proofs.lemmas.List.{take_more_set, length-set}
 use Rattle.keys.specs.Keys.{read_key}
 use Rattle.records.specs.declared.kind.Kind.TheVariants.{Input}
-use Rattle.actions.specs.Actions.{several, read_input, input_size}
+use Rattle.actions.specs.Actions.{read_input, input_size}
 use Rattle.actions.proofs.Scans.{record_rest, read_stop, read_more}
 use Rattle.actions.proofs.action.reading.read_inputs.Goals as goal
 

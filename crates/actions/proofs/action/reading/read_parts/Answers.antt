@@ -1,4 +1,4 @@
-use Rattle.std.proofs.Common.{◌≡◌, ◌-◌, map, take, drop, sym, refl, ap, ◌∙◌}
+use Rattle.std.proofs.Common.{◌-◌, map, take, drop, ap, ◌∙◌}
 use Rattle.actions.specs.Actions.{make_action}
 use Rattle.actions.specs.Views.{argument_bytes}
 use Rattle.actions.proofs.Wholes.{parts_read, from_start}

@@ -1,4 +1,4 @@
-use Rattle.std.proofs.Common.{◌≡◌, ℕ, true, List, length, Some, sym, refl, ap, ◌∙◌, subst, arith}
+use Rattle.std.proofs.Common.{Some, sym, refl, ap, ◌∙◌, arith}
 use Rattle.actions.specs.Words.{is_argument}
 use Rattle.actions.proofs.Rooms.{room_front}
 use Rattle.actions.proofs.Tests.{argument_parts}
