@@ -1,9 +1,8 @@
-use Rattle.std.proofs.Common.{◌≡◌, ℕ, ◌<◌, Bool, true, false, cond, leb, List, ◌++◌, length, take, drop, Some, None, Option, sym, refl, ap, ◌∙◌, arith}
+use Rattle.std.proofs.Common.{◌≡◌, ℕ, Bool, true, false, cond, leb, List, ◌++◌, take, drop, Some, None, Option, sym, ap, ◌∙◌, arith}
 use Rattle.std.proofs.lemmas.List.{append_assoc}
 use Rattle.numbers.specs.BigEndian.{read_big_endian}
 use Rattle.keys.specs.Keys.{key_size, read_key}
 use Rattle.keys.specs.Digests.{value_room}
-use Rattle.keys.specs.declared.key.Key.{Key}
 use Rattle.records.specs.declared.kind.Kind.TheVariants.{LogHead}
 use Rattle.records.specs.Records.{Split, record_bytes, split_record, and_then}
 use Rattle.records.proofs.Fronts.{split_back, split_only}

@@ -1,4 +1,4 @@
-use Rattle.std.specs.Prelude.{ℕ, zero, suc, ◌+◌, ◌-◌, ◌*◌, ◌/◌, ◌%◌, Bool, true, cond, ◌&&◌, List, [], ◌∷◌, ◌++◌, length, take, drop, Some, None, Option, nat_le}
+use Rattle.std.specs.Prelude.{ℕ, zero, suc, ◌+◌, ◌-◌, ◌*◌, ◌/◌, ◌%◌, Bool, true, cond, ◌&&◌, List, [], ◌++◌, length, take, drop, Some, None, Option, nat_le}
 use Rattle.std.proofs.Math.Seq.{paste}
 use Rattle.lists.specs.Each.{zeros_to}
 use Rattle.records.specs.declared.kind.Kind.TheVariants.{LogHead, LogBlock}

@@ -1,13 +1,13 @@
-use Rattle.std.proofs.Common.{◌≡◌, ℕ, ◌+◌, ◌*◌, ◌<◌, ◌≤◌, List, [], length, take, drop, replicate, Some, None, Option, sym, refl, ap, ◌∙◌, subst, arith}
+use Rattle.std.proofs.Common.{◌≡◌, ℕ, ◌+◌, ◌*◌, ◌≤◌, List, length, drop, replicate, Some, None, sym, refl, ap, ◌∙◌, subst, arith}
 use Rattle.std.specs.Option.{option_map}
-use Rattle.std.proofs.lemmas.List.{length-take, length-take-le, length-drop}
+use Rattle.std.proofs.lemmas.List.{length-take-le, length-drop}
 use Rattle.keys.specs.Digests.{value_room}
 use Rattle.keys.specs.declared.key.Key.{Key}
 use Rattle.stores.specs.Numbers.{no_fault, FindNumbers, padded}
 use Rattle.stores.specs.Model.{FindPost}
 use Rattle.stores.proofs.Buffers.{blanked}
 use Rattle.slots.specs.declared.slots.Slots.{Slots}
-use Rattle.slots.specs.Table.{slot_size, slot_count, slot, slot_length, slot_value, lowest_slot}
+use Rattle.slots.specs.Table.{slot_size, slot, slot_length, slot_value, lowest_slot}
 use Rattle.slots.specs.Storing.{bytes_of, found_numbers, found_buffer, slots_model}
 use Rattle.slots.specs.Lowest.{slot-within}
 use Rattle.slots.specs.Pairs.{lowest_some, has_pair}

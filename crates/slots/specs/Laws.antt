@@ -1,15 +1,14 @@
-use Rattle.std.specs.Prelude.{◌≡◌, ℕ, ◌+◌, ◌*◌, ◌<◌, ◌≤◌, true, false, ◌⊎◌, List, [], length, take, drop, Some, None, vec_len, Option, ◌≢◌, refl}
+use Rattle.std.specs.Prelude.{◌≡◌, ℕ, ◌+◌, ◌*◌, ◌<◌, ◌≤◌, ◌⊎◌, List, [], length, take, drop, Some, None, vec_len, Option, ◌≢◌, refl}
 use Rattle.std.proofs.Common.{sym, ap, subst, ◌∙◌, inl, inr, arith}
 use Rattle.std.specs.Option.{option_map, unwrap_or}
-use Rattle.std.proofs.lemmas.List.{length-take, length-take-le, length-drop}
+use Rattle.std.proofs.lemmas.List.{length-take}
 use Rattle.std.proofs.lemmas.Bool.{both_ways, cases_order}
-use Rattle.keys.specs.Digests.{value_room}
 use Rattle.keys.specs.declared.key.Key.{Key}
-use Rattle.stores.specs.Numbers.{Raised, no_fault, FindNumbers, PutNumbers, padded}
+use Rattle.stores.specs.Numbers.{no_fault, FindNumbers, PutNumbers, padded}
 use Rattle.stores.specs.Model.{HeldMeans, FindMeans, PutMeans}
 use Rattle.slots.specs.declared.slots.Slots.{Slots}
-use Rattle.slots.specs.Table.{slot_size, slot_count, slot, Pair, slot_length, slot_value, read_slot, slot_has, lowest_slot, slot_bytes, Held, with_slot}
-use Rattle.slots.specs.Storing.{bytes_of, value_found, found_numbers, found_buffer, SlotsFinds, put_place, SlotsPuts, slots_model}
+use Rattle.slots.specs.Table.{slot_size, slot_count, slot, Pair, slot_length, slot_value, read_slot, lowest_slot, slot_bytes, Held}
+use Rattle.slots.specs.Storing.{bytes_of, found_numbers, found_buffer, SlotsFinds, put_place, SlotsPuts, slots_model}
 use Rattle.slots.specs.Lowest.{slot-within}
 use Rattle.slots.specs.Pairs.{lowest_some, lowest_none, has_pair, pair_has, read_back, length-with_slot, slot_same, slot-before, slot_behind}
 

@@ -1,7 +1,7 @@
-use Rattle.std.specs.Prelude.{◌≡◌, ℕ, zero, suc, ◌+◌, ◌-◌, ◌*◌, ◌/◌, ◌<◌, ◌≤◌, min, Bool, true, false, cond, List, length, Some, None, Option, refl}
-use Rattle.std.proofs.Common.{sym, ap, ◌∙◌, arith, div-mul-le_self, mul-le-mul_right}
+use Rattle.std.specs.Prelude.{◌≡◌, ℕ, suc, ◌+◌, ◌-◌, ◌*◌, ◌/◌, ◌<◌, ◌≤◌, true, false, cond, List, Some, None}
+use Rattle.std.proofs.Common.{ap, ◌∙◌, arith, div-mul-le_self, mul-le-mul_right}
 use Rattle.keys.specs.declared.key.Key.{Key}
-use Rattle.slots.specs.Table.{slot_size, slot_count, slot, slot_has, first_slot, lowest_slot}
+use Rattle.slots.specs.Table.{slot_size, slot_count, slot, slot_has, first_slot}
 
 -- a slot without the key is passed, one with it is the lowest, and behind the last there is none
 pub passed : (k : Key) (bs : List ℕ) (n i : ℕ) → i < n → slot_has k (slot i bs) ≡ false → first_slot k (n - i) i bs ≡ first_slot k (n - (i + 1)) (i + 1) bs

@@ -1,9 +1,8 @@
-use Rattle.std.specs.Prelude.{◌≡◌, ℕ, zero, suc, ◌+◌, ◌-◌, ◌*◌, ◌<◌, ◌≤◌, min, Bool, true, false, cond, ◌&&◌, ◌⊎◌, List, [], ◌∷◌, ◌++◌, length, take, drop, replicate, Some, None, Option, ◌==◌, nat_le, nat_lt, slice_index, refl}
+use Rattle.std.specs.Prelude.{◌≡◌, ℕ, zero, suc, ◌+◌, ◌-◌, ◌*◌, ◌<◌, ◌≤◌, Bool, true, false, cond, ◌⊎◌, List, ◌++◌, length, take, drop, replicate, Some, None, Option, ◌==◌, nat_le, nat_lt, slice_index, refl}
 use Rattle.std.proofs.Common.{sym, ◌∙◌, inl, inr}
 use Rattle.std.proofs.Math.Path.{ap}
 use native.Mathlib.Omega.{arith}
 use Rattle.std.proofs.Math.Nat.{mul-le-mul_right}
-use Rattle.std.proofs.Math.Seq.{paste}
 use Rattle.std.specs.Option.{option_map, unwrap_or}
 use Rattle.std.proofs.lemmas.List.Edits.{drop-paste, length-paste}
 use Rattle.std.proofs.lemmas.List.{append_assoc, length-take-le, length-drop, take_all, take_at, take-take, take-append-le, drop_at, drop-drop, drop-append-le, drop-take}
@@ -11,12 +10,12 @@ use Rattle.std.proofs.lemmas.Bool.{and_from, and_parts, eq-eqb, le-leb, leb-true
 use Rattle.numbers.specs.BigEndian.{big_endian, read_big_endian}
 use Rattle.numbers.proofs.Trips as NumbersTrip
 use Rattle.keys.specs.Digests.{value_room}
-use Rattle.keys.specs.Keys.{key_size, key_bytes, read_key, same_key}
+use Rattle.keys.specs.Keys.{key_size, key_bytes, read_key}
 use Rattle.keys.specs.declared.key.Key.{Key}
 use Rattle.keys.proofs.Trips as KeysTrip
 use Rattle.keys.specs.SameKeys.{same_key_decides}
 use Rattle.stores.specs.Numbers.{padded}
-use Rattle.slots.specs.Table.{slot_size, slot_count, slot, Pair, slot_length, is_taken, slot_value, slot_key, read_slot, pair_at, pair_value, slot_bytes, is_key, slot_has, first_slot, lowest_slot, Held, with_slot}
+use Rattle.slots.specs.Table.{slot_size, slot_count, slot, Pair, slot_length, is_taken, slot_value, slot_key, read_slot, pair_at, pair_value, slot_bytes, is_key, slot_has, first_slot, lowest_slot, with_slot}
 use Rattle.slots.specs.Writes.{length-slot_bytes}
 use Rattle.slots.specs.Lowest.{slot-within}
 

@@ -1,7 +1,6 @@
-use Rattle.std.proofs.Common.{◌≡◌, ℕ, ◌-◌, ◌≤◌, List, [], length, replicate, sym, refl, ap, ◌∙◌, arith}
+use Rattle.std.proofs.Common.{◌≡◌, ℕ, ◌-◌, ◌≤◌, List, [], length, replicate, ap, ◌∙◌, arith}
 use Rattle.std.proofs.lemmas.List.{length-append, length-replicate}
 use Rattle.keys.specs.Digests.{value_room}
-use Rattle.lists.specs.Each.{zeros_to}
 use Rattle.stores.specs.Numbers.{padded}
 
 -- a buffer of a value's room, filled with zeros, holds no value

@@ -1,4 +1,4 @@
-use Rattle.std.specs.Prelude.{ℕ, Bool, cond, ◌&&◌, List, Some, None, Ok, Err, Option, Result, nat_le}
+use Rattle.std.specs.Prelude.{ℕ, Bool, ◌&&◌, List, Some, None, Ok, Err, Option, Result, nat_le}
 use Rattle.keys.specs.Digests.{value_room}
 use Rattle.lists.specs.Each.{zeros_to}
 use Rattle.stores.specs.declared.mark.Mark.{Mark}

@@ -1,4 +1,4 @@
-use Rattle.std.proofs.Common.{◌≡◌, eqb, sym, ap, ◌∙◌, arith}
+use Rattle.std.proofs.Common.{eqb, sym, ◌∙◌, arith}
 use Rattle.std.proofs.lemmas.Bool.{eq-eqb, ne_eqb}
 use Rattle.lists.proofs.Tests.{each_more, each_not, each_end}
 use Rattle.entries.specs.Blocks.{block_count, joined_bodies}

@@ -18,8 +18,8 @@ last_step c =
     let e = (entry_of c.in-Some.entry).part in
     let old = option_map value_of c.loop-entry.last in
     elim c.if-eq.branch [
-      | then-eq w ↦ ap (option_map value_of) w.last-is ∙ ap (later old) (sym (under_own c.args.key.now e (sym c.key.ensures ∙ c.eq.ensures.0 w.if-eq.true)))
-      | else-eq w ↦ ap (option_map value_of) w.last-is ∙ ap (later old) (sym (under_other c.args.key.now e (λ h. both_ways _ w.if-eq.false (c.eq.ensures.1 (c.key.ensures ∙ h)))))
+      | then-eq w ↦ ap (option_map value_of) w.last-is ∙ ap (later old) (sym (under_own c.args.key.now e (sym c.key.ensures ∙ c.eq.ensures.equal.0 w.if-eq.true)))
+      | else-eq w ↦ ap (option_map value_of) w.last-is ∙ ap (later old) (sym (under_other c.args.key.now e (λ h. both_ways _ w.if-eq.false (c.eq.ensures.equal.1 (c.key.ensures ∙ h)))))
     ]
 
 pub loop-entry-preserved : goal.loop-entry-preserved

@@ -1,4 +1,4 @@
-use Rattle.std.proofs.Common.{◌≡◌, ◌-◌, length, sym, refl, ap, ◌∙◌, arith}
+use Rattle.std.proofs.Common.{length, sym, ap, ◌∙◌, arith}
 use Rattle.slots.specs.Table.{slot_count, slot_has}
 use Rattle.slots.specs.Lowest.{passed, found, ended, slot-within}
 use Rattle.slots.proofs.table.lowest_slot.Goals as goal

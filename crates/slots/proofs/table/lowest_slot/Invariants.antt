@@ -1,4 +1,4 @@
-use Rattle.std.proofs.Common.{◌≡◌, ◌-◌, ◌≤◌, length}
+use Rattle.std.proofs.Common.{◌≡◌, ◌-◌, length}
 use Rattle.slots.specs.Table.{slot_count, first_slot, lowest_slot}
 use Rattle.slots.proofs.table.lowest_slot.Given as goal
 

@@ -1,4 +1,4 @@
-use Rattle.std.proofs.Common.{◌≡◌, ◌&&◌, sym, ap, ◌∙◌}
+use Rattle.std.proofs.Common.{◌&&◌, ap, ◌∙◌}
 use Rattle.slots.specs.Table.{is_key, slot_key}
 use Rattle.slots.proofs.table.slot_has.Goals as goal
 

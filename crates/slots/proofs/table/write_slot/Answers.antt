@@ -1,4 +1,4 @@
-use Rattle.std.proofs.Common.{◌≡◌, ◌+◌, ◌-◌, ◌*◌, sym, arith}
+use Rattle.std.proofs.Common.{◌+◌, ◌-◌, ◌*◌, sym, arith}
 use Rattle.std.proofs.lemmas.Slice.{put_mid-paste}
 use Rattle.slots.specs.Table.{slot_size, slot_bytes}
 use Rattle.slots.specs.Writes.{length-slot_bytes}

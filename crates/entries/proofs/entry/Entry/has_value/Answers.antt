@@ -1,4 +1,4 @@
-use Rattle.std.proofs.Common.{◌≡◌, length, get_or, sym, refl, ap, ◌∙◌, arith}
+use Rattle.std.proofs.Common.{refl, arith}
 use Rattle.std.proofs.lemmas.List.{ext_get_or}
 use Rattle.entries.specs.Entries.{value_of}
 use Rattle.entries.proofs.entry.Entry.has_value.Goals as goal

@@ -1,5 +1,4 @@
-use Rattle.std.proofs.Common.{◌≡◌, length, sym, refl, ap, ◌∙◌, arith}
-use Rattle.keys.specs.Digests.{value_room}
+use Rattle.std.proofs.Common.{sym}
 use Rattle.slots.proofs.Calls.{lowest_fits, find_some, find_none}
 use Rattle.slots.proofs.slots.storing.SlotsStore.find.Goals as goal
 

@@ -1,7 +1,7 @@
-use Rattle.std.proofs.Common.{◌≡◌, ℕ, ◌+◌, ◌*◌, ◌≤◌, List, length, vec_items, vec_len, sym, refl, ap, ◌∙◌, arith}
+use Rattle.std.proofs.Common.{◌≡◌, ◌≤◌, length, vec_items, vec_len, sym, refl, ap, ◌∙◌}
 use Rattle.std.proofs.lemmas.List.{with_items_is}
 use Rattle.keys.specs.Digests.{value_room}
-use Rattle.slots.specs.Table.{slot_size, with_slot}
+use Rattle.slots.specs.Table.{with_slot}
 use Rattle.slots.specs.Storing.{bytes_of, put_place}
 use Rattle.slots.specs.Lowest.{slot-within}
 use Rattle.slots.specs.Pairs.{length-with_slot}
