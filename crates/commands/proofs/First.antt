@@ -1,4 +1,4 @@
-use Rattle.std.proofs.Common.{◌≡◌, ℕ, ◌+◌, ◌-◌, ◌<◌, ◌≤◌, Bool, true, false, cond, eqb, ltb, List, [], ◌∷◌, map, length, get_or, take, drop, Some, None, string_bytes, codes, String, sym, refl, ap, ◌∙◌, arith}
+use Rattle.std.proofs.Common.{◌≡◌, ℕ, ◌+◌, ◌-◌, ◌<◌, ◌≤◌, true, false, cond, eqb, ltb, List, [], ◌∷◌, map, length, get_or, take, drop, Some, None, string_bytes, codes, String, sym, refl, ap, ◌∙◌, arith}
 use Rattle.std.specs.List.{between}
 use Rattle.std.specs.Str.{bytes_eq}
 use Rattle.std.proofs.lemmas.List.{drop_more, drop_all, take_rest, take-map, drop-map, length-map, nil_from_length}
@@ -6,7 +6,7 @@ use Rattle.std.proofs.lemmas.Slice.{first_rest}
 use Rattle.std.proofs.lemmas.Bool.{eqb-true, eqb-false, both_ways, lt-ltb, le-ltb}
 use Rattle.std.specs.declared.alloc.Global.{Global}
 use Rattle.commands.specs.declared.DigestName.{DigestName}
-use Rattle.commands.specs.Reading.{Word, Reading, no_file, no_from, key, action, from_place, read_action, with_files, read_files, first_option, is_option}
+use Rattle.commands.specs.Reading.{Word, no_file, no_from, key, action, from_place, read_action, with_files, read_files, first_option, is_option}
 
 -- the first option among the words from place i on
 from_word : (ws : List (String Global)) (i : ℕ) (w : String Global) → i < length ws → w ≡ get_or ws i w → first_option (map string_bytes (drop i ws)) ≡ cond (is_option (string_bytes w)) (Some (string_bytes w)) (first_option (map string_bytes (drop (i + 1) ws)))

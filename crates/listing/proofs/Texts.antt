@@ -1,4 +1,4 @@
-use Rattle.std.proofs.Common.{◌≡◌, ℕ, Bool, true, false, cond, List, length, Some, None, sym, refl, ap, ◌∙◌, arith}
+use Rattle.std.proofs.Common.{◌≡◌, ℕ, Bool, true, false, cond, List, Some, None, sym, refl, ap, ◌∙◌, arith}
 use Rattle.hexadecimal.specs.Hex.{hex, unhex, writes_bytes}
 use Rattle.hexadecimal.proofs.Back as HexBack
 use Rattle.keys.specs.Keys.{key_size, key_bytes, read_key}

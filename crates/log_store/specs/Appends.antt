@@ -1,8 +1,8 @@
-use Rattle.std.specs.Prelude.{◌≡◌, ℕ, ◌+◌, ◌-◌, ◌<◌, ◌≤◌, Bool, true, false, cond, ◌⊎◌, List, [], ◌∷◌, ◌++◌, length, take, drop, Some, None, Option, refl}
+use Rattle.std.specs.Prelude.{◌≡◌, ℕ, ◌≤◌, List, [], ◌∷◌, ◌++◌, length, take, drop, Some, None, refl}
 use Rattle.std.proofs.Common.{sym, subst, ◌∙◌, inl, inr, arith}
 use Rattle.std.proofs.Math.Path.{ap}
 use Rattle.std.specs.Int.Digits.{AllBelowBase}
-use Rattle.std.proofs.lemmas.List.{append_assoc, append-nil, length-append}
+use Rattle.std.proofs.lemmas.List.{append_assoc, length-append}
 use Rattle.keys.specs.Digests.{value_room}
 use Rattle.keys.specs.declared.key.Key.{Key}
 use Rattle.records.specs.Records.{Split}
@@ -12,7 +12,7 @@ use Rattle.entries.specs.Blocks.{entry_size}
 use Rattle.entries.specs.Entries.{Logged, entry_bytes, read_entry}
 use Rattle.entries.proofs.Trips as EntriesTrip
 use Rattle.entries.proofs.Own.{own_bytes}
-use Rattle.log_store.specs.Scans.{Scanned, scan}
+use Rattle.log_store.specs.Scans.{Scanned}
 use Rattle.log_store.specs.Contents.{log_entries, log_rest, log_end, stopped, with_entry_first, appended, entries_bytes, Short}
 use Rattle.log_store.specs.ScansLemmas.{OwnBytes, scan_some, scan_none, scan_ends, scan_front, scan-within, over_scan}
 

@@ -1,10 +1,9 @@
-use Rattle.std.specs.Prelude.{◌≡◌, ℕ, ◌≤◌, Bool, true, false, cond, ◌⊎◌, List, [], ◌∷◌, ◌++◌, length, Some, None, Option, ◌≢◌}
+use Rattle.std.specs.Prelude.{◌≡◌, ℕ, Bool, true, false, cond, ◌⊎◌, List, [], ◌∷◌, ◌++◌, Some, None, Option, ◌≢◌}
 use Rattle.std.proofs.Math.Path.{refl, ap, subst}
 use Rattle.std.proofs.Common.{sym, ◌∙◌, arith}
 use Rattle.std.proofs.Math.Logic.{inl, inr}
 use Rattle.std.proofs.lemmas.Slice.Eq.{bytes_eq-Decides}
 use Rattle.std.proofs.lemmas.Bool.{both_ways}
-use Rattle.keys.specs.Digests.{value_room}
 use Rattle.keys.specs.declared.key.Key.{Key}
 use Rattle.stores.specs.Numbers.{Raised, no_fault, PutNumbers}
 use Rattle.stores.specs.Model.{HeldMeans, FindMeans, PutMeans}
@@ -14,7 +13,7 @@ use Rattle.lists.proofs.Members.{among_split, among_right}
 use Rattle.entries.specs.Entries.{Logged}
 use Rattle.log_store.specs.declared.log.Log.{Log}
 use Rattle.log_store.specs.Contents.{log_entries, is_value, has_room, appended, Held}
-use Rattle.log_store.specs.Storing.{bytes_of, log_mark, no_room, value_found, PutDone, put_done, LogPuts, log_model}
+use Rattle.log_store.specs.Storing.{bytes_of, no_room, value_found, PutDone, LogPuts, log_model}
 use Rattle.log_store.specs.Lasts.{last_among, last_none}
 use Rattle.log_store.specs.Appends.{appended_entries, entries_short}
 

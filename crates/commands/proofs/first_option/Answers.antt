@@ -1,6 +1,6 @@
-use Rattle.std.proofs.Common.{◌≡◌, true, false, cond, List, map, string_bytes, sym, refl, ap, ◌∙◌, arith}
-use Rattle.std.proofs.lemmas.List.{at_drop_more, at_drop_all}
-use Rattle.commands.specs.Reading.{Word, first_option, is_option}
+use Rattle.std.proofs.Common.{map, string_bytes, sym, ap, ◌∙◌, arith}
+use Rattle.std.proofs.lemmas.List.{at_drop_all}
+use Rattle.commands.specs.Reading.{first_option, is_option}
 use Rattle.commands.proofs.First.{passed, found}
 use Rattle.commands.proofs.first_option.Goals as goal
 

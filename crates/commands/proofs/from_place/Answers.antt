@@ -1,4 +1,4 @@
-use Rattle.std.proofs.Common.{◌≡◌, codes, sym, refl, ap, ◌∙◌, arith}
+use Rattle.std.proofs.Common.{codes, sym, ap, ◌∙◌, arith}
 use Rattle.std.specs.Str.{bytes_eq}
 use Rattle.commands.proofs.First.{place-passed, place_found, place-ended}
 use Rattle.commands.proofs.from_place.Goals as goal

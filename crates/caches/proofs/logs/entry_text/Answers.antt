@@ -1,4 +1,4 @@
-use Rattle.std.proofs.Common.{◌≡◌, ◌-◌, take, refl, ap, ◌∙◌}
+use Rattle.std.proofs.Common.{◌-◌, take, refl, ap, ◌∙◌}
 use Rattle.std.proofs.lemmas.Result.{IfOk-weaker}
 use Rattle.entries.specs.Entries.{entry_of, value_of}
 use Rattle.caches.specs.Listings.{pair_text}

@@ -1,4 +1,4 @@
-use Rattle.std.proofs.Common.{◌≡◌, ap, ◌∙◌}
+use Rattle.std.proofs.Common.{ap, ◌∙◌}
 use Rattle.caches.specs.Listings.{is_certain}
 use Rattle.caches.proofs.pairs.is_own_key.Goals as goal
 

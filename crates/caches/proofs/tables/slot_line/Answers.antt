@@ -1,8 +1,8 @@
-use Rattle.std.proofs.Common.{◌≡◌, false, sym, refl, ap, ◌∙◌}
+use Rattle.std.proofs.Common.{false, ap, ◌∙◌}
 use Rattle.std.proofs.lemmas.Result.{IfOk-weaker}
 use Rattle.slots.specs.Table.{pair_at, is_damaged_at}
 use Rattle.slots.specs.Storing.{bytes_of}
-use Rattle.caches.specs.Listings.{about_slot, pair_text}
+use Rattle.caches.specs.Listings.{about_slot}
 use Rattle.caches.proofs.Lines.{slot_some, slot_half, slot_none}
 use Rattle.caches.proofs.tables.slot_line.Goals as goal
 
