@@ -139,7 +139,7 @@ def main():
             open(path, "w", encoding="utf-8").write(out)
     for path in PAGES:
         text = open(path, encoding="utf-8").read()
-        out = re.sub(r"`[^`\n]+`", lambda m: WORD.sub(turn, m[0]) if len(m[0]) > 2 and not m[0].startswith("`kiln") else m[0], text)
+        out = re.sub(r"`([^`\n]+)`", lambda m: "`" + WORD.sub(turn, m[1]) + "`", text)
         if out != text:
             open(path, "w", encoding="utf-8").write(out)
     rename_crates()
