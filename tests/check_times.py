@@ -1,18 +1,54 @@
 #!/usr/bin/env python3
-"""Prints the table of docs/CHECK-TIMES.md from what the gate printed: check_times.py < LOG"""
+"""Prints the table of docs/CHECK-TIMES.md: check_times.py. It proves each crate and tries its edits from nothing, one crate
+after another, in a copy of the repository's last commit, and takes some ten minutes."""
 import re
+import subprocess
 import sys
-from collections import OrderedDict
+import tempfile
+import time
+from pathlib import Path
 
-proved, edits = OrderedDict(), {}
-for text in sys.stdin:
-    if m := re.match(r"rt: (\w+) proved \((\d+) s\)", text):
-        proved[m[1]] = int(m[2])
-    if m := re.match(r"rt: must-fail (\w+)/.*; (\d+) s\)", text):
-        edits.setdefault(m[1], []).append(int(m[2]))
-print("| crate | proved | edits | seconds of its edits |")
-print("|---|---|---|---|")
-for name, seconds in proved.items():
-    mine = edits.get(name, [])
-    print(f"| `{name}` | {seconds} | {len(mine)} | {sum(mine)} |")
-print(f"| all | {sum(proved.values())} | {sum(map(len, edits.values()))} | {sum(sum(v) for v in edits.values())} |")
+
+def seconds(folder, *words):
+    started = time.monotonic()
+    ran = subprocess.run(words, cwd=folder, stdout=subprocess.PIPE, stderr=subprocess.STDOUT, text=True)
+    if ran.returncode:
+        sys.exit(f"check_times.py: {' '.join(words)} failed in {folder}\n{ran.stdout[-2000:]}")
+    return round(time.monotonic() - started)
+
+
+def lowest_first(text):
+    """The crates of crates.txt, each behind those that it rests on."""
+    below = {m[1]: m[2].split() for m in re.finditer(r"(?m)^(\w+):(.*)$", text)}
+    order = []
+
+    def place(name):
+        for other in below[name]:
+            if other in below and other not in order:
+                place(other)
+        if name not in order:
+            order.append(name)
+
+    for name in below:
+        place(name)
+    return order
+
+
+def main():
+    top = Path(__file__).resolve().parent.parent
+    total = [0, 0, 0]
+    print("| crate | proved | edits | seconds of its edits |")
+    print("|---|---|---|---|")
+    with tempfile.TemporaryDirectory() as room:
+        subprocess.run(["git", "clone", "-q", str(top), room], check=True)
+        for name in lowest_first(Path(room, "crates.txt").read_text()):
+            folder = Path(room, "crates", name)
+            edits = len(list(folder.glob("must-fail/*.edit")))
+            proved = seconds(folder, "rt", "verdict")
+            tried = seconds(room, "rt", "must-fail", name, "--anew") if edits else 0
+            total = [a + b for a, b in zip(total, (proved, edits, tried))]
+            print(f"| `{name}` | {proved} | {edits} | {tried} |", flush=True)
+    print(f"| all | {total[0]} | {total[1]} | {total[2]} |")
+
+
+main()

@@ -11,6 +11,7 @@ use commands::{Command, DigestName, FileJob, Misuse, read_words};
 use files::read_up_to;
 use keys::{Digest, Fnv1a, Key, Tally};
 use listing::{action_lines, key_from_text, key_line};
+use std::process::ExitCode;
 use std::{env, io};
 
 const USAGE: &str = "kiln: settings for kiln controllers, built from texts
@@ -211,6 +212,10 @@ fn run(rt: &HostRuntime) -> anyhow::Result<()> {
     }
 }
 
-fn main(rt: HostRuntime) -> anyhow::Result<()> {
-    run(&rt)
+fn main(rt: HostRuntime) -> ExitCode {
+    match run(&rt) {
+        Ok(()) => ExitCode::SUCCESS,
+        // what is wrong was said where it was met
+        Err(_) => ExitCode::FAILURE,
+    }
 }

@@ -2,8 +2,8 @@
 
 #![tactic(auto)]
 
+mod damaged;
 mod score;
-mod stores;
 
 use anyhow::anyhow;
 use score::Score;
@@ -13,7 +13,7 @@ fn run(rt: &HostRuntime) -> anyhow::Result<()> {
         tried: 0,
         failed: 0,
     };
-    stores::try_stores(rt, &mut score)?;
+    damaged::try_damaged_stores(rt, &mut score)?;
     let Score { tried, failed } = score;
     println!(rt; "{tried} cases, {failed} failed")?;
     if failed > 0 {

@@ -167,7 +167,7 @@ fn try_random(rt: &HostRuntime, seed: u64) -> anyhow::Result<bool> {
 }
 
 /// Tries all of these.
-pub fn try_stores(rt: &HostRuntime, score: &mut Score) -> anyhow::Result<()> {
+pub fn try_damaged_stores(rt: &HostRuntime, score: &mut Score) -> anyhow::Result<()> {
     for row in LOG_DAMAGE.iter() {
         let word = score.count(try_log(rt, row)?);
         let (place, byte, _, _, _) = *row;
