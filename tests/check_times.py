@@ -1,6 +1,6 @@
 #!/usr/bin/env python3
 """Prints the table of docs/CHECK-TIMES.md: check_times.py. It proves each crate and tries its edits from nothing, one crate
-after another, in a copy of the repository's last commit, and takes some ten minutes."""
+after another, in a copy of the repository's last commit, and takes half an hour."""
 import re
 import subprocess
 import sys
