@@ -1,14 +1,16 @@
-use Rattle.std.specs.Prelude.{◌≡◌, ℕ, ◌+◌, ◌*◌, ◌<◌, ◌≤◌, ◌⊎◌, List, [], length, take, drop, Some, None, vec_len, Option, ◌≢◌, refl}
+use Rattle.std.specs.Prelude.{◌≡◌, ℕ, ◌+◌, ◌*◌, ◌<◌, ◌≤◌, ◌⊎◌, List, length, take, drop, Some, None, vec_len, Option, refl}
 use Rattle.std.proofs.Common.{sym, ap, subst, ◌∙◌, inl, inr, arith}
 use Rattle.std.specs.Option.{option_map, unwrap_or}
 use Rattle.std.proofs.lemmas.List.{length-take}
 use Rattle.std.proofs.lemmas.Bool.{both_ways, cases_order}
 use Rattle.keys.specs.declared.key.Key.{Key}
-use Rattle.stores.specs.Numbers.{no_fault, FindNumbers, PutNumbers, padded}
+use Rattle.stores.specs.Numbers.{FindNumbers, PutNumbers}
+use Rattle.stores.specs.LookUps.{LooksUp}
+use Rattle.stores.proofs.LookUps.{look_up_means}
 use Rattle.stores.specs.Model.{HeldMeans, FindMeans, PutMeans}
 use Rattle.slots.specs.declared.slots.Slots.{Slots}
 use Rattle.slots.specs.Table.{slot_size, slot_count, slot, Pair, slot_length, slot_value, read_slot, lowest_slot, slot_bytes, Held}
-use Rattle.slots.specs.Storing.{bytes_of, found_numbers, found_buffer, SlotsFinds, put_place, SlotsPuts, slots_model}
+use Rattle.slots.specs.Storing.{bytes_of, value_found, SlotsFinds, put_place, SlotsPuts, slots_model}
 use Rattle.slots.specs.Lowest.{slot-within}
 use Rattle.slots.specs.Pairs.{lowest_some, lowest_none, has_pair, pair_has, read_back, length-with_slot, slot_same, slot-before, slot_behind}
 
@@ -25,57 +27,41 @@ held_means = record {
   causes = λ s f h. absurd h;
 }
 
-module _ (s t : Slots) (k : Key) (r : FindNumbers) (p : List ℕ) (f : SlotsFinds s k r p t) where
-  -- what is answered, by the lowest slot
-  none_answer : lowest_slot k (bytes_of s) ≡ None → (r ≡ record { answer = 2; size = 0; first = no_fault }) × (p ≡ padded [])
-  none_answer e =
-      let o = ap (option_map (λ i. slot_value (slot i (bytes_of s)))) e in
-      (f.answer ∙ ap found_numbers o, f.buffer ∙ ap found_buffer o)
+-- a find of slots looks up the value of the lowest slot of the key
+pub looks_up : (s t : Slots) (k : Key) (r : FindNumbers) (p : List ℕ) → SlotsFinds s k r p t → LooksUp (λ u j. value_found j (bytes_of u)) s k r p t
+looks_up s t k r p f = record { answer = f.answer; buffer = f.buffer; same = f.same }
 
-  some_answer : (i : ℕ) → lowest_slot k (bytes_of s) ≡ Some i → (r ≡ record { answer = 1; size = length (slot_value (slot i (bytes_of s))); first = no_fault }) × (p ≡ padded (slot_value (slot i (bytes_of s))))
-  some_answer i e =
-      let o = ap (option_map (λ i. slot_value (slot i (bytes_of s)))) e in
-      (f.answer ∙ ap found_numbers o, f.buffer ∙ ap found_buffer o)
+-- the value that is found is that of a pair of the key, and where there is none no slot has the key
+value_held : (s : Slots) (k : Key) (v : List ℕ) (l : Option ℕ) → lowest_slot k (bytes_of s) ≡ l → option_map (λ i. slot_value (slot i (bytes_of s))) l ≡ Some v → Held (bytes_of s) k v
+value_held s k v None e h = let z : ◌≡◌ {A = ℕ} 0 1 = cc in absurd (omega arith)
+value_held s k v (Some i) e h =
+    let l = lowest_some k (bytes_of s) i e in
+    let q = has_pair k (slot i (bytes_of s)) l.1 in
+    let same : slot_value (slot i (bytes_of s)) ≡ v = cc in
+    let pair_of : List ℕ → Pair = λ x. record { key = k; value = x } in
+    record { place = i; within = l.0; pair = q.0 ∙ ap (λ x. Some (pair_of x)) same }
 
-  pub find_answers : (l : Option ℕ) → lowest_slot k (bytes_of s) ≡ l → (1 ≤ r.answer) × (r.answer ≤ 3)
-  find_answers None e = let a = ap (λ (x : FindNumbers). x.answer) (none_answer e).0 in (omega arith, omega arith)
-  find_answers (Some i) e = let a = ap (λ (x : FindNumbers). x.answer) (some_answer i e).0 in (omega arith, omega arith)
-
-  pub find_found : (l : Option ℕ) → lowest_slot k (bytes_of s) ≡ l → r.answer ≡ 1 → (v : List ℕ) × (Held (bytes_of s) k v) × (length v ≡ r.size) × (p ≡ padded v)
-  find_found None e one = let a = ap (λ (x : FindNumbers). x.answer) (none_answer e).0 in absurd (omega arith)
-  find_found (Some i) e one =
-      let l = lowest_some k (bytes_of s) i e in
-      let h = has_pair k (slot i (bytes_of s)) l.1 in
-      let a = some_answer i e in
-      (slot_value (slot i (bytes_of s)), record { place = i; within = l.0; pair = h.0 }, sym (ap (λ (x : FindNumbers). x.size) a.0), a.1)
-
-  pub find_missing : (l : Option ℕ) → lowest_slot k (bytes_of s) ≡ l → r.answer ≡ 2 → (v : List ℕ) → Held (bytes_of s) k v → ⊥
-  find_missing None e two v h =
-      let q = pair_has (slot h.place (bytes_of s)) k v h.pair in
-      both_ways _ (lowest_none k (bytes_of s) e h.place h.within) q.0
-  find_missing (Some i) e two v h = let a = ap (λ (x : FindNumbers). x.answer) (some_answer i e).0 in absurd (omega arith)
-
-  pub find_blanked : (l : Option ℕ) → lowest_slot k (bytes_of s) ≡ l → (r.answer ≢ 1) → (p ≡ padded []) × (r.size ≡ 0)
-  find_blanked None e other = let a = none_answer e in (a.1, ap (λ (x : FindNumbers). x.size) a.0)
-  find_blanked (Some i) e other = absurd (other (ap (λ (x : FindNumbers). x.answer) (some_answer i e).0))
-
-  pub find_first : (l : Option ℕ) → lowest_slot k (bytes_of s) ≡ l → (r.first ≡ no_fault) × (r.answer ≤ 2)
-  find_first None e = let a = (none_answer e).0 in (ap (λ (x : FindNumbers). x.first) a, omega (arith, ap (λ (x : FindNumbers). x.answer) a))
-  find_first (Some i) e = let a = (some_answer i e).0 in (ap (λ (x : FindNumbers). x.first) a, omega (arith, ap (λ (x : FindNumbers). x.answer) a))
+none_held : (s : Slots) (k : Key) (l : Option ℕ) → lowest_slot k (bytes_of s) ≡ l → option_map (λ i. slot_value (slot i (bytes_of s))) l ≡ None → (v : List ℕ) → Held (bytes_of s) k v → ⊥
+none_held s k None e h v held =
+    let q = pair_has (slot held.place (bytes_of s)) k v held.pair in
+    both_ways _ (lowest_none k (bytes_of s) e held.place held.within) q.0
+none_held s k (Some i) e h v held = let z : ◌≡◌ {A = ℕ} 0 1 = cc in absurd (omega arith)
 
 pub find_means : FindMeans slots_model
-find_means = record {
-  answers = λ s t k r p f. find_answers s t k r p f (lowest_slot k (bytes_of s)) refl;
-  found = λ s t k r p f one. find_found s t k r p f (lowest_slot k (bytes_of s)) refl one;
-  missing = λ s t k r p f two v h.
-      let At : Slots → Type 0 = λ u. Held (bytes_of u) k v in
-      find_missing s t k r p f (lowest_slot k (bytes_of s)) refl two v (subst At f.same h);
-  blanked = λ s t k r p f other. find_blanked s t k r p f (lowest_slot k (bytes_of s)) refl other;
-  nothing_new = λ s t k r p f j w h. let At : Slots → Type 0 = λ u. Held (bytes_of u) j w in subst At f.same h;
-  faulted = λ s t k r p f three none. let a = find_first s t k r p f (lowest_slot k (bytes_of s)) refl in omega (arith, a.1);
-  own_fault = λ s t k r p f some. absurd (some (find_first s t k r p f (lowest_slot k (bytes_of s)) refl).0);
-  same_faults = λ s t k r p f g. (λ h. absurd h, λ h. absurd h);
-}
+find_means =
+    let g =
+    look_up_means slots_model.holds slots_model.raises SlotsPuts (λ s k. value_found k (bytes_of s))
+    (λ s k v h. value_held s k v (lowest_slot k (bytes_of s)) refl h) (λ s k h. none_held s k (lowest_slot k (bytes_of s)) refl h) in
+    record {
+      answers = λ s t k r p f. g.answers s t k r p (looks_up s t k r p f);
+      found = λ s t k r p f. g.found s t k r p (looks_up s t k r p f);
+      missing = λ s t k r p f. g.missing s t k r p (looks_up s t k r p f);
+      blanked = λ s t k r p f. g.blanked s t k r p (looks_up s t k r p f);
+      nothing_new = λ s t k r p f. g.nothing_new s t k r p (looks_up s t k r p f);
+      faulted = λ s t k r p f. g.faulted s t k r p (looks_up s t k r p f);
+      own_fault = λ s t k r p f. g.own_fault s t k r p (looks_up s t k r p f);
+      same_faults = λ s t k r p f. g.same_faults s t k r p (looks_up s t k r p f);
+    }
 
 place_of : (s : Slots) (k : Key) (l : Option ℕ) → lowest_slot k (bytes_of s) ≡ l → unwrap_or l s.cursor < slot_count (length (bytes_of s))
 place_of s k None e =

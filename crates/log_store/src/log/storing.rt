@@ -44,7 +44,7 @@ impl Log {
     /// it back.
     pub fn reopened(self, mark: u8) -> Result<Log, Declined<Vec<u8>>>
         ensures answer { making_answer result ≡ (if is_free_mark mark then 0 else 10) }
-        ensures cases { MatchResult result (λ s. SamePairs self s × (log_mark s ≡ mark)) (λ d. d.given ≡ self.bytes) }
+        ensures cases { MatchResult result (λ s. (s.bytes ≡ self.bytes) × SamePairs self s × (log_mark s ≡ mark)) (λ d. d.given ≡ self.bytes) }
     {
         Log::new(mark, self.into_bytes())
     }

@@ -34,7 +34,7 @@ impl Slots {
 
     /// The store closed and opened again from its bytes, as by a program that saves a cache file and reads it back.
     pub fn reopened(self) -> Result<Slots, Declined<Vec<u8>>>
-        ensures { MatchResult result (λ s. SamePairs self s × (s.cursor ≡ 0)) (λ _. ⊥) }
+        ensures { MatchResult result (λ s. (s.bytes ≡ self.bytes) × SamePairs self s × (s.cursor ≡ 0)) (λ _. ⊥) }
     {
         Slots::new(self.into_bytes())
     }
