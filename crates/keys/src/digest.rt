@@ -5,6 +5,9 @@ ghost use Rattle.keys.specs.Digests.{value_room, within, key_of};
 
 use crate::key::Key;
 
+/// The most bytes of a value in a store; every digest takes so many.
+pub const VALUE_ROOM: usize = 2048;
+
 /// A digest: a function from byte strings up to a longest one to four words of 64 bits.
 pub trait Digest {
     /// The most bytes that the digest takes.

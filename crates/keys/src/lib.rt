@@ -10,7 +10,7 @@ pub mod fnv1a;
 pub mod key;
 pub mod tally;
 
-pub use self::digest::{Digest, key_of};
+pub use self::digest::{Digest, VALUE_ROOM, key_of};
 pub use self::fnv1a::Fnv1a;
 pub use self::key::Key;
 pub use self::tally::Tally;
