@@ -3,9 +3,9 @@ use lib.Seq.{paste}
 use Rattle.std.specs.List.{flat_map, AllByRecursion as All}
 use Rattle.std.specs.Int.Digits.{number_from_digits, AllBelowBase}
 use Rattle.std.proofs.lemmas.Int.Digits.{number_lt}
-use Rattle.std.proofs.ByRecursion.{All-append, All-take, All-drop}
+use Rattle.std.proofs.ByRecursion.{All-from_get_or, All-append, All-take, All-drop}
 use Rattle.std.proofs.lemmas.List.{append_assoc, append-nil, length-append, length-take-le, length-drop, drop-drop, drop_all, take_at, drop_at, take-append-drop, take_more, take_all, flat_map_more}
-use Rattle.std.proofs.lemmas.Bool.{eqb-true}
+use Rattle.std.proofs.lemmas.Bool.{eqb-true, eq-eqb}
 use Rattle.numbers.specs.BigEndian.{big_endian}
 use Rattle.numbers.proofs.Trips.{length-big_endian, under_big_endian, number_big_endian, big_endian_number}
 use Rattle.keys.specs.declared.key.Key.{Key}
@@ -96,7 +96,12 @@ uncut k (a ∷ b ∷ c ∷ d ∷ e ∷ ws) n four fits short ew en = absurd (ome
 -- a key has its size in bytes, and these are bytes
 pub length-key_bytes : (k : Key) → length (key_bytes k) ≡ key_size
 unfolding key_bytes
-length-key_bytes k = refl
+length-key_bytes k =
+    let l = length-append (flat_map (big_endian 8) (key_words k)) (big_endian 4 k.count) in
+    let w = length_words (key_words k) in
+    let n = length-big_endian 4 k.count in
+    let f : length k.words ≡ 4 = k.four in
+    omega arith
 
 pub under_key_bytes : (k : Key) → AllBelowBase 256 (key_bytes k)
 unfolding key_bytes
@@ -106,18 +111,25 @@ under_key_bytes k =
 
 -- the words of a key fit
 pub words_of_key_fit : (k : Key) → All (λ w. w < 2 ^ 64) (key_words k)
-words_of_key_fit k = (k.first_fits, (k.second_fits, (k.third_fits, (k.fourth_fits, tt))))
+words_of_key_fit k = All-from_get_or (λ w. w < 2 ^ 64) k.words 0 (λ i h. k.fit i)
 
-pub back : (k : Key) → read_key (key_bytes k) ≡ Some k
+-- the words and the count of a key read back from its bytes
+parts_back : (k : Key) → make_key (words_of 4 (key_bytes k)) (number_from_digits 256 (drop words_size (key_bytes k))) ≡ k
 unfolding make_key key_bytes
-back k =
+parts_back k =
     let ws = key_words k in
     let js = flat_map (big_endian 8) ws in
-    let w : words_of 4 (key_bytes k) ≡ ws = words_back ws (big_endian 4 k.count) (words_of_key_fit k) in
-    let d = drop_at js (big_endian 4 k.count) words_size (length_words ws) in
+    let four : length ws ≡ 4 = k.four in
+    let w : words_of 4 (key_bytes k) ≡ ws = ap (λ n. words_of n (key_bytes k)) (sym four) ∙ words_back ws (big_endian 4 k.count) (words_of_key_fit k) in
+    let l : length js ≡ words_size = omega (arith, length_words ws) in
+    let d = drop_at js (big_endian 4 k.count) words_size l in
     let c : number_from_digits 256 (drop words_size (key_bytes k)) ≡ k.count = ap (number_from_digits 256) d ∙ number_big_endian 4 k.count k.count_fits in
-    let e = ap (λ vs. make_key vs (number_from_digits 256 (drop words_size (key_bytes k)))) w ∙ ap (make_key ws) c in
-    ap Some (e ∙ uncut k ws k.count refl (words_of_key_fit k) k.count_fits refl refl)
+    ap (λ vs. make_key vs (number_from_digits 256 (drop words_size (key_bytes k)))) w ∙ (ap (make_key ws) c ∙ uncut k ws k.count four (words_of_key_fit k) k.count_fits refl refl)
+
+pub back : (k : Key) → read_key (key_bytes k) ≡ Some k
+back k =
+    let t = eq-eqb (length (key_bytes k)) key_size (length-key_bytes k) in
+    rw t (ap Some (parts_back k))
 
 only_from : (bs : List ℕ) (k : Key) (b : Bool) → b ≡ eqb (length bs) key_size → AllBelowBase 256 bs → cond b (Some (make_key (words_of 4 bs) (number_from_digits 256 (drop words_size bs)))) None ≡ Some k → bs ≡ key_bytes k
 unfolding make_key key_bytes

@@ -1,5 +1,5 @@
-use Rattle.std.specs.Prelude.{◌≡◌, ℕ, zero, suc, ◌+◌, ◌*◌, ◌%◌, ◌^◌, Bool, cond, ◌&&◌, List, [], ◌∷◌, ◌++◌, length, take, drop, Some, None, Option, ◌==◌, slice_index}
-use Rattle.std.proofs.Common.{mod-lt, arith}
+use Rattle.std.specs.Prelude.{◌<◌, ◌≡◌, ℕ, zero, suc, ◌+◌, ◌*◌, ◌%◌, ◌^◌, Bool, cond, ◌&&◌, List, [], ◌∷◌, ◌++◌, length, take, drop, Some, None, Option, ◌==◌, slice_index}
+use Rattle.std.proofs.Common.{refl, mod-lt, arith}
 use Rattle.std.specs.List.{flat_map}
 use Rattle.std.specs.Int.Digits.{number_from_digits, AllBelowBase}
 use Rattle.std.specs.Str.{bytes_eq}
@@ -14,25 +14,28 @@ words_size = 4 * 8
 abbrev pub key_size : ℕ
 key_size = words_size + 4
 
+-- each of four words fits where all do
+pub four_fit : (a b c d : ℕ) → a < 2 ^ 64 → b < 2 ^ 64 → c < 2 ^ 64 → d < 2 ^ 64 → (i : ℕ) → slice_index (a ∷ b ∷ c ∷ d ∷ []) i < 2 ^ 64
+four_fit a b c d p q r s zero = p
+four_fit a b c d p q r s (suc zero) = q
+four_fit a b c d p q r s (suc (suc zero)) = r
+four_fit a b c d p q r s (suc (suc (suc zero))) = s
+four_fit a b c d p q r s (suc (suc (suc (suc i)))) = omega arith
+
 -- the key of four numbers and a count, each cut to its width
 unfoldable pub make_key : List ℕ → ℕ → Key
 make_key ws n =
     record {
-      first = slice_index ws 0 % 2 ^ 64;
-      second = slice_index ws 1 % 2 ^ 64;
-      third = slice_index ws 2 % 2 ^ 64;
-      fourth = slice_index ws 3 % 2 ^ 64;
+      words = slice_index ws 0 % 2 ^ 64 ∷ slice_index ws 1 % 2 ^ 64 ∷ slice_index ws 2 % 2 ^ 64 ∷ slice_index ws 3 % 2 ^ 64 ∷ [];
       count = n % 2 ^ 32;
-      first_fits = mod-lt (slice_index ws 0) (omega arith);
-      second_fits = mod-lt (slice_index ws 1) (omega arith);
-      third_fits = mod-lt (slice_index ws 2) (omega arith);
-      fourth_fits = mod-lt (slice_index ws 3) (omega arith);
+      four = refl;
+      fit = four_fit _ _ _ _ (mod-lt (slice_index ws 0) (omega arith)) (mod-lt (slice_index ws 1) (omega arith)) (mod-lt (slice_index ws 2) (omega arith)) (mod-lt (slice_index ws 3) (omega arith));
       count_fits = mod-lt n (omega arith);
     }
 
 -- the words of a key, in order
 abbrev pub key_words : Key → List ℕ
-key_words k = k.first ∷ k.second ∷ k.third ∷ k.fourth ∷ []
+key_words k = k.words
 
 -- the bytes of a key: its words in order, then its count, each high byte first
 unfoldable pub key_bytes : Key → List ℕ

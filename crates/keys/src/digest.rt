@@ -13,29 +13,24 @@ pub trait Digest {
     /// The most bytes that the digest takes.
     const LONGEST: u32;
 
-    // the most bytes that the digest takes
-    ghost most: { ℕ };
+    ghost LONGEST: { ℕ };
 
     // the digest of each byte string, four words as a function of the type
     ghost words: { List ℕ → List ℕ };
 
-    /// The constant `LONGEST`, which no contract can name.
-    fn most_bytes() -> u32
-        ensures { result ≡ most };
-
     /// The digest of a byte string; absent exactly for one that is longer than the longest.
     fn digest(bytes: &[u8]) -> Option<[u64; 4]>
-        ensures { result ≡ within most bytes.now (words bytes.now) };
+        ensures { result ≡ within LONGEST bytes.now (words bytes.now) };
 
     // each value of a store has a digest
-    ghost long: { value_room ≤ most };
+    ghost long: { value_room ≤ LONGEST };
 }
 
 /// The key of a byte string: its digest and its length; absent where the digest is.
 pub fn key_of<D: Digest>(bytes: &[u8]) -> Option<Key>
-    ensures { result ≡ key_of D.Digest.most D.Digest.words bytes.now }
+    ensures { result ≡ key_of D.Digest.LONGEST D.Digest.words bytes.now }
 {
-    if bytes.len() > D::most_bytes() as usize {
+    if bytes.len() > D::LONGEST as usize {
         return None;
     }
     let words = D::digest(bytes)?;

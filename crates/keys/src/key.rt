@@ -1,20 +1,32 @@
 //! A key: what names a byte string in a cache.
 
-ghost use Rattle.std.specs.Prelude.{◌^◌, ◌<◌};
+ghost use Rattle.std.specs.Prelude.{Some, codes, ◌≡◌, ◌^◌, ◌<◌, ℕ, length, slice_index};
+
+use std::error::Error;
+use std::fmt;
 
 pub mod texts;
 
 /// The four words of a digest, and how many bytes were digested.
-#[derive(Clone, Copy, Debug)]
+#[derive(Clone, Copy, Debug, PartialEq, Eq)] // compared by all its fields
 pub struct Key {
-    first: u64,
-    second: u64,
-    third: u64,
-    fourth: u64,
+    words: [u64; 4],
     count: u32,
-    ghost first_fits: { first < 2 ^ 64 },
-    ghost second_fits: { second < 2 ^ 64 },
-    ghost third_fits: { third < 2 ^ 64 },
-    ghost fourth_fits: { fourth < 2 ^ 64 },
+    ghost four: { length words ≡ 4 },
+    ghost fit: { (i : ℕ) → slice_index words i < 2 ^ 64 },
     ghost count_fits: { count < 2 ^ 32 },
 }
+
+/// A slice of another size than a key's.
+#[derive(Clone, Copy, Debug, PartialEq, Eq)]
+pub struct WrongSize;
+
+impl fmt::Display for WrongSize {
+    ghost output = { λ _. Some (codes "a key has 36 bytes") };
+
+    fn fmt<W: fmt::Write>(&self, f: &mut fmt::Formatter<W>) -> fmt::Result {
+        f.write_str("a key has 36 bytes")
+    }
+}
+
+impl Error for WrongSize {}

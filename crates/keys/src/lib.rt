@@ -3,7 +3,9 @@
 #![tactic(auto)]
 
 ghost use Rattle.keys.specs.Detects.{SingleBytesDetected, KeysUncut, TallyFits};
-ghost use Rattle.keys.specs.Keys.{KeysRoundTrip};
+ghost use Rattle.std.specs.Prelude.{◌≡◌, Decides};
+ghost use Rattle.keys.specs.declared.key.Key.{Key};
+ghost use Rattle.keys.specs.Keys.{same_key, KeysRoundTrip};
 
 pub mod digest;
 pub mod fnv1a;
@@ -12,33 +14,31 @@ pub mod tally;
 
 pub use self::digest::{Digest, VALUE_ROOM, key_of};
 pub use self::fnv1a::Fnv1a;
-pub use self::key::Key;
+pub use self::key::{Key, WrongSize};
 pub use self::tally::Tally;
 
 /// Carries the theorem that a key reads back from its bytes, and that no other bytes read as it.
-pub fn keys_round_trip() -> u8
+pub fn keys_round_trip()
     ensures { KeysRoundTrip }
-{
-    0
-}
+{}
+
+/// Carries the theorem that `==` of keys is the test of their words and counts, and tells whether two keys are one.
+pub fn keys_told_apart()
+    ensures value { (j k : Key) → ⟦<Key as PartialEq>⟧.eq j k ≡ same_key j k }
+    ensures equal { (j k : Key) → Decides (⟦<Key as PartialEq>⟧.eq j k) (j ≡ k) }
+{}
 
 /// Carries the theorem that one damaged byte always changes the digest, under FNV-1a and under Tally.
-pub fn single_bytes_detected() -> u8
+pub fn single_bytes_detected()
     ensures { SingleBytesDetected }
-{
-    0
-}
+{}
 
 /// Carries the theorem that Tally's sums stay far below 64 bits.
-pub fn tally_fits() -> u8
+pub fn tally_fits()
     ensures { TallyFits }
-{
-    0
-}
+{}
 
 /// Carries the theorem that a key under FNV-1a or Tally has exactly the digest's words and the byte count.
-pub fn keys_uncut() -> u8
+pub fn keys_uncut()
     ensures { KeysUncut }
-{
-    0
-}
+{}

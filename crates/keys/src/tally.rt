@@ -13,15 +13,11 @@ pub struct Tally;
 impl Digest for Tally {
     const LONGEST: u32 = 65536;
 
-    ghost most = { 65536 };
+    ghost LONGEST = { 65536 };
 
     ghost words = { λ bs. tally_sum bs ∷ tally_weighted bs ∷ 0 ∷ 0 ∷ [] };
 
     ghost long = { Prim.search rules };
-
-    fn most_bytes() -> u32 {
-        Self::LONGEST
-    }
 
     fn digest(bytes: &[u8]) -> Option<[u64; 4]> {
         if bytes.len() > Self::LONGEST as usize {

@@ -1,2 +1,3 @@
 pub mod Trips
 pub mod Steps
+pub mod Ends

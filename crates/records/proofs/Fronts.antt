@@ -1,7 +1,7 @@
 use Rattle.std.proofs.Common.{◌≡◌, ℕ, suc, ◌+◌, ◌-◌, ◌<◌, ◌≤◌, Bool, true, false, cond, ◌&&◌, eqb, leb, List, [], ◌∷◌, ◌++◌, length, get_or, take, drop, set, Some, None, Option, sym, refl, ap, ◌∙◌, arith}
 use borrow.Rule.Slice.PartMut.{put_mid}
 use lib.Seq.{paste}
-use Rattle.std.proofs.lemmas.List.{append_assoc, take_rest, take_at, drop_at, take_more_set, drop-set-lt, drop-drop, length-append, length-set, length-take-le, take_all, take-append-drop}
+use Rattle.std.proofs.lemmas.List.{append_assoc, take_at, drop_at, take_more_set, drop-set-lt, drop-drop, length-append, length-set, length-take-le, take_all, take-append-drop}
 use Rattle.std.proofs.lemmas.Bool.{and_from, and_parts, eq-eqb, eqb-true, le-leb, leb-true}
 use Rattle.records.specs.declared.kind.Kind.{Kind}
 use Rattle.records.specs.Records.{Split, kind_number, body_length, record_size, record_bytes, begins_record, split_record, fits_at, record_fits}
@@ -12,16 +12,6 @@ pub begins_yes : (kind : Kind) (bs : List ℕ) → 0 < length bs → get_or bs 0
 begins_yes kind [] some first long = absurd (omega arith)
 begins_yes kind (b ∷ bs) some first long =
     and_from (eqb b (kind_number kind)) (leb (body_length kind) (length bs)) (eq-eqb b (kind_number kind) first) (le-leb (body_length kind) (length bs) (omega arith))
-
-pub split_yes : (kind : Kind) (bs p r : List ℕ) (n : ℕ) → n ≡ body_length kind → 0 < length bs → get_or bs 0 0 ≡ kind_number kind → n ≤ length bs - 1 → p ≡ take (1 + n - 1) (drop 1 bs) → r ≡ take (length bs - (1 + n)) (drop (1 + n) bs) → Some (record { part = p; rest = r }) ≡ split_record kind bs
-split_yes kind bs p r n en some first long ep er =
-    let t = begins_yes kind bs some first (omega arith) in
-    let m : 1 + n - 1 ≡ body_length kind = omega arith in
-    let q : p ≡ take (body_length kind) (drop 1 bs) = ep ∙ ap (λ k. take k (drop 1 bs)) m in
-    let s : r ≡ drop (record_size kind) bs = er ∙ (take_rest bs (1 + n) ∙ ap (λ k. drop (1 + k) bs) en) in
-    let made : List ℕ → List ℕ → Split (List ℕ) = λ x y. record { part = x; rest = y } in
-    let whole : made p r ≡ made (take (body_length kind) (drop 1 bs)) (drop (record_size kind) bs) = ap (λ x. made x r) q ∙ ap (made (take (body_length kind) (drop 1 bs))) s in
-    rw t (ap Some whole)
 
 -- a record at the front reads as its body, with what lies behind
 pub split_back : (kind : Kind) (body rest : List ℕ) → length body ≡ body_length kind → split_record kind (record_bytes kind body ++ rest) ≡ Some (record { part = body; rest = rest })

@@ -1,29 +1,10 @@
-//! Making keys, comparing them, and their bytes.
+//! Making keys, and their bytes.
 
 ghost use Rattle.std.specs.Prelude.{◌≡◌, length, if◌then◌else◌, Decides, ◌==◌, nat_eq};
 ghost use Rattle.keys.specs.Keys.{key_size, make_key, key_words, key_bytes, read_key, same_key};
-ghost use Rattle.std.specs.Cmp.{decided, partial_equiv_from_equiv};
-ghost use Rattle.keys.specs.SameKeys.{same_key_decides};
 
-use super::Key;
+use super::{Key, WrongSize};
 use numbers::{read_number, write_number};
-
-impl PartialEq for Key {
-    ghost eq = { same_key };
-
-    ghost laws = { partial_equiv_from_equiv (decided same_key same_key_decides) };
-
-    fn eq(&self, other: &Key) -> bool
-        ensures value { result ≡ same_key self.now other.now }
-        ensures equal { Decides result (self.now ≡ other.now) }
-    {
-        self.first == other.first
-            && self.second == other.second
-            && self.third == other.third
-            && self.fourth == other.fourth
-            && self.count == other.count
-    }
-}
 
 impl Key {
     /// How many bytes a key is written in.
@@ -33,20 +14,14 @@ impl Key {
     pub fn new(words: [u64; 4], count: u32) -> Key
         ensures { result ≡ make_key words count }
     {
-        Key {
-            first: words[0],
-            second: words[1],
-            third: words[2],
-            fourth: words[3],
-            count,
-        }
+        Key { words, count }
     }
 
     /// The digest's four words.
     pub fn words(&self) -> [u64; 4]
         ensures { result ≡ key_words self.now }
     {
-        [self.first, self.second, self.third, self.fourth]
+        self.words
     }
 
     /// How many bytes were digested.
@@ -56,20 +31,19 @@ impl Key {
         self.count
     }
 
-    /// Writes the key into a slice of its size; a slice of another size is left as it is, and the answer is false.
-    pub fn write(&self, into: &mut [u8]) -> bool
-        ensures answer { result ≡ (length into.old == key_size) }
+    /// Writes the key into a slice of its size; a slice of another size is refused, and left as it is.
+    pub fn write(&self, into: &mut [u8]) -> Result<(), WrongSize>
+        ensures answer { result ≡ (if nat_eq (length into.old) key_size then Ok tt else Err (record {})) }
         ensures after { into.new ≡ (if nat_eq (length into.old) key_size then key_bytes self.now else into.old) }
     {
         if into.len() != Key::SIZE {
-            return false;
+            return Err(WrongSize);
         }
-        let words = self.words();
-        for (i, word) in words.iter().enumerate() {
+        for (i, word) in self.words.iter().enumerate() {
             write_number(&mut into[8 * i..8 * i + 8], *word);
         }
         write_number(&mut into[32..36], u64::from(self.count));
-        true
+        Ok(())
     }
 
     /// The bytes of the key.
@@ -89,8 +63,8 @@ impl Key {
             return None;
         }
         let mut words = [0u64; 4];
-        for i in 0..4 {
-            words[i] = read_number(&bytes[8 * i..8 * i + 8])?;
+        for (i, word) in words.iter_mut().enumerate() {
+            *word = read_number(&bytes[8 * i..8 * i + 8])?;
         }
         let count = read_number(&bytes[32..36])?;
         Some(Key::new(words, count as u32))

@@ -16,9 +16,9 @@ returns c =
     let en = c.body_length-length.ensures in
     let t : record_fits kind body at xs ≡ true = and_from _ _ (eq-eqb (length body) (body_length kind) (omega arith)) (le-leb (at + record_size kind) (length xs) (omega arith)) in
     let m : at + 1 + n - (at + 1) ≡ n = omega arith in
-    let ys = set xs at c.kind_number.result in
+    let ys = set xs at c.from.result in
     let e = ap (λ k. put_mid (at + 1) k ys c.copy_from_slice.new.self) m ∙ ap (put_mid (at + 1) n ys) c.copy_from_slice.ensures.after in
-    let p = put_parts xs ys _ body at n c.kind_number.result (omega arith) (omega arith) refl e in
-    let q = ap (λ k. paste xs at (k ∷ body) (1 + n)) c.kind_number.ensures ∙ ap (λ k. paste xs at (record_bytes kind body) (1 + k)) en in
+    let p = put_parts xs ys _ body at n c.from.result (omega arith) (omega arith) refl e in
+    let q = ap (λ k. paste xs at (k ∷ body) (1 + n)) c.from.ensures ∙ ap (λ k. paste xs at (record_bytes kind body) (1 + k)) en in
     let s : at + 1 + n ≡ at + record_size kind = omega arith in
     rw t (record { answer = ap Some s; after = p ∙ q })

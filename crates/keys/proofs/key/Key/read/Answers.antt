@@ -13,13 +13,13 @@ use Rattle.keys.proofs.key.Key.read.Goals as goal
 pub loop-i-preserved : goal.loop-i-preserved
 loop-i-preserved c =
     let bs = c.args.bytes.now in
-    let ws = c.loop-i.words in
+    let ws = c.loop-i.word-items in
     let i = c.loop-i.i in
-    let w = c.in_ok-words.field-0 in
+    let w = c.in_ok-word.field-0 in
     let k = 8 * i + 8 - 8 * i in
     let e : k ≡ 8 = omega arith in
     let l : length (take k (drop (8 * i) bs)) ≡ 8 = simp (length-take, length-drop) (omega arith) in
-    let n = number_read (take k (drop (8 * i) bs)) w (omega arith) c.in_ok-words.ensures in
+    let n = number_read (take k (drop (8 * i) bs)) w (omega arith) c.in_ok-word.ensures in
     let n8 : w ≡ number_from_digits 256 (take 8 (drop (8 * i) bs)) = n ∙ ap (λ m. number_from_digits 256 (take m (drop (8 * i) bs))) e in
     let m = take_more_set ws i w (omega arith) in
     let o = words_of_more i bs in
@@ -49,6 +49,6 @@ returns c =
     let t = eq-eqb (length bs) 36 (omega arith) in
     let n = count_read bs c.in_ok-count.count (omega arith) c.in_ok-count.ensures in
     let four : c.loop-i.i ≡ 4 = omega arith in
-    let w : c.loop-i.words ≡ words_of 4 bs =
-    sym (take_all c.loop-i.i c.loop-i.words (omega arith)) ∙ (c.loop-i.invariant.0 ∙ ap (λ i. words_of i bs) four) in
+    let w : c.loop-i.word-items ≡ words_of 4 bs =
+    sym (take_all c.loop-i.i c.loop-i.word-items (omega arith)) ∙ (c.loop-i.invariant.0 ∙ ap (λ i. words_of i bs) four) in
     rw t (ap Some (c.new.ensures ∙ (ap (λ ws. make_key ws c.in_ok-count.count) w ∙ ap (make_key (words_of 4 bs)) n)))

@@ -4,4 +4,4 @@ use Rattle.keys.proofs.key.Key.read.Given as goal
 
 -- the first i words are read
 abbrev pub invariant-loop-i : goal.invariant-loop-i
-invariant-loop-i l = (take l.i l.words ≡ words_of l.i l.bytes) × (length l.words ≡ 4)
+invariant-loop-i l = (take l.i l.word-items ≡ words_of l.i l.bytes) × (length l.word-items ≡ 4)

@@ -1,5 +1,4 @@
-use Rattle.std.proofs.Common.{◌≡◌, ◌+◌, ◌-◌, ◌*◌, ◌++◌, length, get_or, take, drop, refl, ap, ◌∙◌, arith}
-use Rattle.std.specs.List.{flat_map}
+use Rattle.std.proofs.Common.{◌≡◌, ◌+◌, ◌-◌, ◌*◌, length, get_or, take, drop, refl, ap, ◌∙◌, arith}
 use Rattle.std.proofs.lemmas.List.{length-take, length-drop}
 use Rattle.std.proofs.lemmas.Slice.{put_mid-paste}
 use Rattle.std.proofs.lemmas.Bool.{eq-eqb}
@@ -10,7 +9,7 @@ use Rattle.keys.proofs.key.Key.write.Goals as goal
 
 pub loop-i-preserved : goal.loop-i-preserved
 loop-i-preserved c =
-    let ws = c.words-words.result in
+    let ws = c.args.self.now.words in
     let i = c.loop-i.i in
     let ys = c.loop-i.into in
     let k = 8 * i + 8 - 8 * i in
@@ -28,6 +27,6 @@ returns c =
     let b = ap (λ k. big_endian k c.from.result) l ∙ ap (big_endian 4) c.from.ensures in
     let t = eq-eqb (length c.args.into.now) 36 (omega arith) in
     let last =
-    write_last c.words-words.result c.args.into.now ys _ c.loop-i.i n (omega arith) (omega arith) (omega arith) c.loop-i.invariant
+    write_last c.args.self.now.words c.args.into.now ys _ c.loop-i.i n (omega arith) (omega arith) (omega arith) c.loop-i.invariant
     (put_mid-paste 32 4 ys c.write_number-2.new.into (big_endian 4 n) 4 (c.write_number-2.ensures ∙ b) refl refl) in
-    rw t (record { answer = refl; after = last ∙ ap (λ ws. flat_map (big_endian 8) ws ++ big_endian 4 n) c.words-words.ensures })
+    rw t (record { answer = refl; after = last })
