@@ -1,10 +1,10 @@
-use Rattle.std.proofs.Common.{◌≡◌, ℕ, zero, suc, ◌+◌, ◌*◌, ◌%◌, ◌^◌, ◌<◌, ◌≤◌, Bool, true, false, cond, eqb, List, [], ◌∷◌, ◌++◌, length, get_or, take, drop, Some, None, sym, refl, ap, ◌∙◌, mod-eq_of_lt, arith}
+use Rattle.std.proofs.Common.{◌≡◌, ℕ, zero, suc, ◌+◌, ◌*◌, ◌%◌, ◌^◌, ◌<◌, ◌≤◌, Bool, true, false, cond, eqb, List, [], ◌∷◌, ◌++◌, length, take, drop, Some, None, sym, refl, ap, ◌∙◌, mod-eq_of_lt, arith}
 use lib.Seq.{paste}
 use Rattle.std.specs.List.{flat_map, AllByRecursion as All}
 use Rattle.std.specs.Int.Digits.{number_from_digits, AllBelowBase}
 use Rattle.std.proofs.lemmas.Int.Digits.{number_lt}
 use Rattle.std.proofs.ByRecursion.{All-from_get_or, All-append, All-take, All-drop}
-use Rattle.std.proofs.lemmas.List.{append_assoc, append-nil, length-append, length-take-le, length-drop, drop-drop, drop_all, take_at, drop_at, take-append-drop, take_more, take_all, flat_map_more}
+use Rattle.std.proofs.lemmas.List.{append_assoc, append-nil, length-append, length-take-le, length-drop, drop-drop, drop_all, take_at, drop_at, take-append-drop, take_all}
 use Rattle.std.proofs.lemmas.Bool.{eqb-true, eq-eqb}
 use Rattle.numbers.specs.BigEndian.{big_endian}
 use Rattle.numbers.proofs.Trips.{length-big_endian, under_big_endian, number_big_endian, big_endian_number}
@@ -47,10 +47,6 @@ words_fit (suc n) bs u long =
     let d = length-drop 8 bs in
     let f = number_lt 256 (take 8 bs) (All-take (λ b. b < 256) 8 bs u) in
     (rw l at f, words_fit n (drop 8 bs) (All-drop (λ b. b < 256) 8 bs u) (omega arith))
-
-length-words_of : (n : ℕ) (bs : List ℕ) → length (words_of n bs) ≡ n
-length-words_of zero bs = refl
-length-words_of (suc n) bs = ap suc (length-words_of n (drop 8 bs))
 
 -- bytes are what writing their words gives, then the rest
 words_only : (n : ℕ) (bs : List ℕ) → AllBelowBase 256 bs → 8 * n ≤ length bs → flat_map (big_endian 8) (words_of n bs) ++ drop (8 * n) bs ≡ bs
@@ -157,21 +153,6 @@ only_from bs k false t u h = let z : ◌≡◌ {A = ℕ} 0 1 = cc in absurd (ome
 
 pub only : (bs : List ℕ) (k : Key) → AllBelowBase 256 bs → read_key bs ≡ Some k → bs ≡ key_bytes k
 only bs k u h = only_from bs k (eqb (length bs) key_size) refl u h
-
--- one word more is written behind those before it
-pub write_more : (ws xs ys out : List ℕ) (i : ℕ) → i < length ws → ys ≡ flat_map (big_endian 8) (take i ws) ++ drop (8 * i) xs → out ≡ paste ys (8 * i) (big_endian 8 (get_or ws i 0)) 8 → out ≡ flat_map (big_endian 8) (take (i + 1) ws) ++ drop (8 * (i + 1)) xs
-write_more ws xs ys out i h ey eo =
-    let w = get_or ws i 0 in
-    let js = flat_map (big_endian 8) (take i ws) in
-    let n : 8 * i + 8 ≡ 8 * (i + 1) = omega arith in
-    let lt = length-take-le i ws (omega arith) in
-    let lj : length js ≡ 8 * i = length_words (take i ws) ∙ ap (λ n. 8 * n) lt in
-    let t : take (8 * i) ys ≡ js = ap (take (8 * i)) ey ∙ take_at js (drop (8 * i) xs) (8 * i) lj in
-    let d : drop (8 * i) ys ≡ drop (8 * i) xs = ap (drop (8 * i)) ey ∙ drop_at js (drop (8 * i) xs) (8 * i) lj in
-    let d8 : drop (8 * i + 8) ys ≡ drop (8 * (i + 1)) xs = sym (drop-drop 8 (8 * i) ys) ∙ (ap (drop 8) d ∙ (drop-drop 8 (8 * i) xs ∙ ap (λ n. drop n xs) n)) in
-    let m = ap (flat_map (big_endian 8)) (take_more ws i 0 h) in
-    let j : js ++ big_endian 8 w ≡ flat_map (big_endian 8) (take (i + 1) ws) = flat_map_more (big_endian 8) [] (take i ws) w ∙ sym m in
-    eo ∙ (ap (λ zs. (zs ++ big_endian 8 w) ++ drop (8 * i + 8) ys) t ∙ (ap (λ zs. (js ++ big_endian 8 w) ++ zs) d8 ∙ ap (λ zs. zs ++ drop (8 * (i + 1)) xs) j))
 
 -- the count is written behind all words
 pub write_last : (ws xs ys out : List ℕ) (i n : ℕ) → length ws ≡ 4 → length xs ≡ key_size → i ≡ 4 → ys ≡ flat_map (big_endian 8) (take i ws) ++ drop (8 * i) xs → out ≡ paste ys words_size (big_endian 4 n) 4 → out ≡ flat_map (big_endian 8) ws ++ big_endian 4 n

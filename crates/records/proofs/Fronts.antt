@@ -1,7 +1,6 @@
-use Rattle.std.proofs.Common.{◌≡◌, ℕ, suc, ◌+◌, ◌-◌, ◌<◌, ◌≤◌, Bool, true, false, cond, ◌&&◌, eqb, leb, List, [], ◌∷◌, ◌++◌, length, get_or, take, drop, set, Some, None, Option, sym, refl, ap, ◌∙◌, arith}
-use borrow.Rule.Slice.PartMut.{put_mid}
+use Rattle.std.proofs.Common.{◌≡◌, ℕ, suc, ◌+◌, ◌-◌, ◌<◌, ◌≤◌, Bool, true, false, cond, ◌&&◌, eqb, leb, List, [], ◌∷◌, ◌++◌, length, get_or, take, drop, Some, None, Option, sym, refl, ap, ◌∙◌, arith}
 use lib.Seq.{paste}
-use Rattle.std.proofs.lemmas.List.{append_assoc, take_at, drop_at, take_more_set, drop-set-lt, drop-drop, length-append, length-set, length-take-le, take_all, take-append-drop}
+use Rattle.std.proofs.lemmas.List.{take_at, drop_at, length-append, length-take-le, take_all, take-append-drop}
 use Rattle.std.proofs.lemmas.Bool.{and_from, and_parts, eq-eqb, eqb-true, le-leb, leb-true}
 use Rattle.records.specs.declared.kind.Kind.{Kind}
 use Rattle.records.specs.Records.{Split, kind_number, body_length, record_size, record_bytes, begins_record, split_record, fits_at, record_fits}
@@ -26,20 +25,6 @@ split_back kind body rest long =
     let whole : made (take (body_length kind) (body ++ rest)) (drop (record_size kind) (record_bytes kind body ++ rest)) ≡ made body rest =
     ap (λ x. made x (drop (record_size kind) (record_bytes kind body ++ rest))) p ∙ ap (made body) q in
     rw t (ap Some whole)
-
--- one byte and the bytes behind it, written at a place, are a record written there
-pub put_parts : (xs ys out body : List ℕ) (at n kind : ℕ) → at < length xs → length body ≡ n → ys ≡ set xs at kind → out ≡ put_mid (at + 1) n ys body → out ≡ paste xs at (kind ∷ body) (1 + n)
-put_parts xs ys out body at n kind h lb ey eo =
-    let t : take (at + 1) ys ≡ take at xs ++ kind ∷ [] = ap (take (at + 1)) ey ∙ take_more_set xs at kind h in
-    let l = length-set xs at kind in
-    let d : drop n (drop (at + 1) ys) ≡ drop (at + 1 + n) xs =
-    drop-drop n (at + 1) ys ∙ (ap (drop (at + 1 + n)) ey ∙ drop-set-lt (at + 1 + n) xs at kind (omega arith)) in
-    let m : at + 1 + n ≡ at + (1 + n) = omega arith in
-    let f = ap (λ k. drop k xs) m in
-    let s : take (1 + n) (kind ∷ body) ≡ kind ∷ body = take_all (1 + n) (kind ∷ body) (omega arith) in
-    let rest = drop (at + (1 + n)) xs in
-    eo ∙ (ap (λ zs. zs ++ (body ++ drop n (drop (at + 1) ys))) t ∙ (ap (λ zs. (take at xs ++ kind ∷ []) ++ (body ++ zs)) (d ∙ f)
-    ∙ (append_assoc (take at xs) (kind ∷ []) (body ++ rest) ∙ (sym (append_assoc (take at xs) (kind ∷ body) rest) ∙ ap (λ zs. (take at xs ++ zs) ++ rest) (sym s)))))
 
 -- a record written at the front of a buffer
 pub front_record : (kind : Kind) (body buffer out : List ℕ) (r : Option ℕ) → length body ≡ body_length kind → r ≡ cond (record_fits kind body 0 buffer) (Some (0 + record_size kind)) None → out ≡ cond (record_fits kind body 0 buffer) (paste buffer 0 (record_bytes kind body) (record_size kind)) buffer → (r ≡ front_size (record_bytes kind body) buffer) × (out ≡ with_front (record_bytes kind body) buffer)

@@ -1,8 +1,4 @@
-use Rattle.std.proofs.Common.{◌+◌, ◌*◌, ◌^◌, ◌<◌, length, Some, ap, ◌∙◌, arith}
-use Rattle.std.specs.Int.Digits.{number_from_digits}
-use Rattle.std.proofs.lemmas.Int.Digits.{number_more}
-use Rattle.std.proofs.lemmas.List.{take_all}
-use Rattle.std.proofs.lemmas.Bool.{le-leb}
+use Rattle.std.proofs.Common.{◌+◌, ◌*◌, ◌^◌, ◌<◌, arith}
 use Rattle.numbers.proofs.Steps.{fits_64, fits_more}
 use Rattle.numbers.proofs.read_number.Goals as goal
 
@@ -21,15 +17,3 @@ more c =
 pub overflow_add-number : goal.overflow_add-number
 overflow_add-number c =
     omega (arith, fits_64 (c.loop-b.number * 256 + c.from.result) (c.loop-b.b-index + 1) (more c) (omega arith))
-
-pub loop-b-preserved : goal.loop-b-preserved
-loop-b-preserved c =
-    let m = number_more 256 c.args.bytes.now c.loop-b.b-index (omega arith) in
-    (omega arith, more c)
-
-pub returns : goal.returns
-returns c =
-    let bs = c.args.bytes.now in
-    let t = le-leb (length bs) 8 (omega arith) in
-    let e = ap (number_from_digits 256) (take_all c.loop-b.b-index bs (omega arith)) in
-    rw t (ap Some (c.loop-b.invariant.0 ∙ e))

@@ -1,22 +1,11 @@
-use Rattle.std.proofs.Common.{◌≡◌, ◌+◌, ◌-◌, ◌*◌, length, get_or, take, drop, refl, ap, ◌∙◌, arith}
+use Rattle.std.proofs.Common.{◌≡◌, length, take, drop, refl, ap, ◌∙◌, arith}
 use Rattle.std.proofs.lemmas.List.{length-take, length-drop}
 use Rattle.std.proofs.lemmas.Slice.{put_mid-paste}
 use Rattle.std.proofs.lemmas.Bool.{eq-eqb}
 use Rattle.numbers.specs.BigEndian.{big_endian}
 use Rattle.keys.specs.Keys.{key_bytes}
-use Rattle.keys.proofs.Trips.{write_more, write_last}
+use Rattle.keys.proofs.Trips.{write_last}
 use Rattle.keys.proofs.key.Key.write.Goals as goal
-
-pub loop-i-preserved : goal.loop-i-preserved
-loop-i-preserved c =
-    let ws = c.args.self.now.words in
-    let i = c.loop-i.i in
-    let ys = c.loop-i.into in
-    let k = 8 * i + 8 - 8 * i in
-    let l : length (take k (drop (8 * i) ys)) ≡ 8 = simp (length-take, length-drop) (omega arith) in
-    let b = ap (λ n. big_endian n (get_or ws i 0)) l in
-    write_more ws c.args.into.now ys _ i (omega arith) c.loop-i.invariant
-    (put_mid-paste (8 * i) k ys c.write_number.new.into (big_endian 8 (get_or ws i 0)) 8 (c.write_number.ensures ∙ b) (omega arith) refl)
 
 pub returns : goal.returns
 unfolding key_bytes

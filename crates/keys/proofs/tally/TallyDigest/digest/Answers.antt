@@ -1,8 +1,5 @@
-use Rattle.std.proofs.Common.{◌+◌, ◌*◌, ◌≤◌, length, get_or, sym, ap, ◌∙◌, mul-le-mul, arith}
-use Rattle.std.proofs.lemmas.List.{take_all}
+use Rattle.std.proofs.Common.{◌+◌, ◌*◌, ◌≤◌, get_or, sym, ap, ◌∙◌, mul-le-mul, arith}
 use Rattle.std.proofs.lemmas.List.Sums.{sum_by_more}
-use Rattle.std.proofs.lemmas.Bool.{le-leb}
-use Rattle.keys.specs.Digests.{tally_sum, tally_weighted}
 use Rattle.keys.proofs.Sums.{weighted_more}
 use Rattle.keys.proofs.tally.TallyDigest.digest.Goals as goal
 
@@ -18,13 +15,3 @@ loop-i-preserved c =
     let product : b * (i + 1) ≤ 255 * 65536 = mul-le-mul small near in
     rw (c.from.ensures, c.from-sum.ensures)
     (ap (λ x. x + b) c.loop-i.invariant.0 ∙ sym s, ap (λ x. x + b * (i + 1)) c.loop-i.invariant.1 ∙ sym w, omega arith, omega arith)
-
-pub returns : goal.returns
-returns c =
-    let bytes = c.args.bytes.now in
-    let t = le-leb (length bytes) 65536 (omega arith) in
-    let e = ap tally_sum (take_all c.loop-i.i bytes (omega arith)) in
-    let f = ap tally_weighted (take_all c.loop-i.i bytes (omega arith)) in
-    let p = c.loop-i.invariant.0 in
-    let q = c.loop-i.invariant.1 in
-    rw t (cc)
