@@ -109,6 +109,10 @@ under_key_bytes k =
 pub words_of_key_fit : (k : Key) → All (λ w. w < 2 ^ 64) (key_words k)
 words_of_key_fit k = All-from_get_or (λ w. w < 2 ^ 64) k.words 0 (λ i h. k.fit i)
 
+-- a key is made again of its words and its count
+pub made_again : (k : Key) → make_key (key_words k) k.count ≡ k
+made_again k = uncut k (key_words k) k.count k.four (words_of_key_fit k) k.count_fits refl refl
+
 -- the words and the count of a key read back from its bytes
 parts_back : (k : Key) → make_key (words_of 4 (key_bytes k)) (number_from_digits 256 (drop words_size (key_bytes k))) ≡ k
 unfolding make_key key_bytes
@@ -120,7 +124,7 @@ parts_back k =
     let l : length js ≡ words_size = omega (arith, length_words ws) in
     let d = drop_at js (big_endian 4 k.count) words_size l in
     let c : number_from_digits 256 (drop words_size (key_bytes k)) ≡ k.count = ap (number_from_digits 256) d ∙ number_big_endian 4 k.count k.count_fits in
-    ap (λ vs. make_key vs (number_from_digits 256 (drop words_size (key_bytes k)))) w ∙ (ap (make_key ws) c ∙ uncut k ws k.count four (words_of_key_fit k) k.count_fits refl refl)
+    ap (λ vs. make_key vs (number_from_digits 256 (drop words_size (key_bytes k)))) w ∙ (ap (make_key ws) c ∙ made_again k)
 
 pub back : (k : Key) → read_key (key_bytes k) ≡ Some k
 back k =
