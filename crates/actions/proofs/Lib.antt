@@ -1,9 +1,1 @@
 pub mod Tests
-pub mod Rooms
-pub mod Puts
-pub mod Makes
-pub mod Sizes
-pub mod Bodies
-pub mod Scans
-pub mod Wholes
-pub mod Trips

@@ -8,7 +8,7 @@ use Rattle.keys.specs.declared.key.Key.{Key}
 use Rattle.records.specs.declared.kind.Kind.{Kind}
 use Rattle.records.specs.declared.kind.Kind.TheVariants.{End, Operation, Argument, Input}
 use Rattle.records.specs.Records.{Split, record_bytes, record_size, split_record, and_then, alone}
-use Rattle.lists.specs.Each.{each}
+use Rattle.std.specs.List.{list_all}
 use Rattle.actions.specs.Words.{is_letter, is_argument, argument_body, read_argument_body}
 
 -- what a step does, and to which inputs: an operation, its arguments, the keys of its inputs in order
@@ -27,7 +27,7 @@ input_most = 4
 -- an action: a letter A to Z, up to 2 arguments, 1 to 4 inputs
 abbrev pub is_action : Act → Bool
 is_action a =
-    is_letter a.letter && ((nat_le (length a.arguments) argument_most && each is_argument a.arguments)
+    is_letter a.letter && ((nat_le (length a.arguments) argument_most && list_all is_argument a.arguments)
     && (nat_le 1 (length a.inputs) && nat_le (length a.inputs) input_most))
 
 -- the action of these parts, where they make one

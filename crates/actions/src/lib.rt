@@ -6,5 +6,4 @@ pub mod action;
 pub mod argument;
 
 pub use self::action::Action;
-pub use self::action::reading::actions_round_trip;
 pub use self::argument::Argument;
