@@ -10,6 +10,17 @@ use lists::Few;
 
 pub mod making;
 
+const OPERATION_RECORD: usize = 1 + 1;
+
+const ARGUMENT_RECORD: usize = 1 + 1 + 16;
+
+const INPUT_RECORD: usize = 1 + Key::SIZE;
+
+const END_RECORD: usize = 1;
+
+/// The text of an action: up to 187 bytes.
+pub type ActionText = Few<u8, { Action::LONGEST }>;
+
 /// A letter A to Z, up to 2 arguments and 1 to 4 keys of inputs, in order.
 #[derive(Clone, Copy)]
 pub struct Action {
@@ -18,4 +29,10 @@ pub struct Action {
     inputs: Few<Key, 4>,
     ghost capital: { is_letter letter ≡ true },
     ghost some: { 1 ≤ length (few_items inputs) },
+}
+
+impl Action {
+    /// The size of the longest action text: 187 bytes.
+    pub const LONGEST: usize = OPERATION_RECORD
+        + (2 * ARGUMENT_RECORD + (4 * INPUT_RECORD + END_RECORD));
 }

@@ -4,6 +4,7 @@
 
 pub mod action;
 pub mod argument;
+mod part;
 
 pub use self::action::Action;
 pub use self::argument::Argument;
