@@ -1,3 +1,5 @@
 pub mod Tests
 pub mod Appends
 pub mod Scans
+pub mod Sizes
+pub mod Trips

@@ -1,6 +1,5 @@
 use Rattle.std.specs.Prelude.{ℕ, List, map}
 use Rattle.std.specs.Borrow.{Bor}
-use Rattle.keys.specs.declared.key.Key.{Key}
 use Rattle.lists.specs.declared.few.Few.{Few}
 use Rattle.lists.specs.Few.{few_items}
 use Rattle.records.specs.Records.{Split}

@@ -9,6 +9,8 @@ use keys::Key;
 use lists::Few;
 
 pub mod making;
+pub mod reading;
+pub mod texts;
 
 const OPERATION_RECORD: usize = 1 + 1;
 

@@ -1,0 +1,61 @@
+use Rattle.std.proofs.Common.{◌≡◌, ℕ, ◌-◌, ◌*◌, ◌≤◌, true, List, [], ◌∷◌, ◌++◌, map, length, replicate, refl, arith}
+use Rattle.std.specs.List.{flat_map, list_all}
+use Rattle.std.proofs.lemmas.List.{length-append, length-map, length-replicate}
+use Rattle.std.proofs.lemmas.Bool.{and_from, and_parts}
+use Rattle.keys.specs.declared.key.Key.{Key}
+use Rattle.keys.proofs.Trips.{length-key_bytes}
+use Rattle.lists.specs.Few.{few_items}
+use Rattle.lists.proofs.Cuts.{length-few_items}
+use Rattle.actions.specs.Words.{is_argument, argument_body}
+use Rattle.actions.specs.Actions.{Act, action_text, action_size, argument_record, input_record, argument_size, input_size, longest_text}
+use Rattle.actions.specs.Views.{argument_bytes, act_of}
+use Rattle.actions.specs.declared.argument.Argument.{Argument}
+use Rattle.actions.specs.declared.action.Action.{Action}
+use Rattle.actions.proofs.Tests.{argument_parts}
+
+pub length-argument_body : (w : List ℕ) → length w ≤ 16 → length (argument_body w) ≡ 17
+length-argument_body w short =
+    let a = length-append w (replicate (16 - length w) 0) in
+    let r = length-replicate {A = ℕ} (16 - length w) 0 in
+    omega arith
+
+-- the records of arguments, and those of inputs, one size to each
+pub length_arguments : (ws : List (List ℕ)) → list_all is_argument ws ≡ true → length (flat_map argument_record ws) ≡ length ws * argument_size
+length_arguments [] t = refl
+length_arguments (w ∷ ws) t =
+    let p = and_parts (is_argument w) (list_all is_argument ws) t in
+    let q = argument_parts w p.0 in
+    let b = length-argument_body w q.1 in
+    let a = length-append (argument_record w) (flat_map argument_record ws) in
+    let r = length_arguments ws p.1 in
+    omega arith
+
+pub length_inputs : (ks : List Key) → length (flat_map input_record ks) ≡ length ks * input_size
+length_inputs [] = refl
+length_inputs (k ∷ ks) =
+    let b = length-key_bytes k in
+    let a = length-append (input_record k) (flat_map input_record ks) in
+    let r = length_inputs ks in
+    omega arith
+
+pub length_text : (a : Act) → list_all is_argument a.arguments ≡ true → length (action_text a) ≡ action_size (length a.arguments) (length a.inputs)
+length_text a t =
+    let p = length_arguments a.arguments t in
+    let q = length_inputs a.inputs in
+    let r = length-append (flat_map argument_record a.arguments) (flat_map input_record a.inputs ++ 0 ∷ []) in
+    let s = length-append (flat_map input_record a.inputs) (0 ∷ []) in
+    omega arith
+
+-- every argument of the code is one
+each_argument : (ws : List Argument) → list_all is_argument (map argument_bytes ws) ≡ true
+each_argument [] = refl
+each_argument (w ∷ ws) = and_from _ _ w.good (each_argument ws)
+
+-- there is room for the text of every action of the code
+pub length_of_action : (a : Action) → length (action_text (act_of a)) ≤ longest_text
+length_of_action a =
+    let l = length_text (act_of a) (each_argument (few_items a.arguments)) in
+    let k = length-map (few_items a.arguments) argument_bytes in
+    let m = length-few_items a.arguments in
+    let n = length-few_items a.inputs in
+    omega arith
