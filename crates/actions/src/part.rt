@@ -7,16 +7,14 @@ ghost use Rattle.keys.specs.Keys.{key_bytes, read_key};
 ghost use Rattle.keys.specs.declared.key.Key.{Key};
 ghost use Rattle.lists.specs.Few.{few_items};
 ghost use Rattle.records.specs.declared.kind.Kind.{Kind};
-ghost use Rattle.records.specs.declared.kind.Kind.TheVariants.{Argument as ArgumentKind, Input as InputKind};
+ghost use Rattle.records.specs.declared.kind.Kind.TheVariants.{Input};
 ghost use Rattle.records.specs.Records.{record_bytes};
-ghost use Rattle.actions.specs.Words.{argument_body, read_argument_body};
 ghost use Rattle.actions.specs.Actions.{longest_text, read_record, several};
-ghost use Rattle.actions.specs.Views.{argument_bytes, part_read, parts_read};
+ghost use Rattle.actions.specs.Views.{part_read, parts_read};
 
 use crate::action::ActionText;
-use crate::argument::Argument;
 use keys::Key;
-use lists::{Few, are_zeros};
+use lists::Few;
 use records::parts::kind_number;
 use records::{Kind, split_record};
 
@@ -50,45 +48,12 @@ pub(crate) trait Part: Copy {
         ensures { option_map seen result ≡ from_body body.now };
 }
 
-impl Part for Argument {
-    ghost Seen = { List ℕ };
-
-    ghost seen = { argument_bytes };
-
-    ghost kind = { ArgumentKind };
-
-    ghost body_of = { argument_body };
-
-    ghost from_body = { read_argument_body };
-
-    fn any() -> Argument {
-        Argument::any()
-    }
-
-    fn kind() -> Kind {
-        Kind::Argument
-    }
-
-    fn append_body(&self, text: &mut ActionText) {
-        text.append_what_fits(&self.body());
-    }
-
-    fn read_body(body: &[u8]) -> Option<Argument> {
-        let (length, room) = body.split_first()?;
-        let (bytes, behind) = room.split_at_checked(*length as usize)?;
-        if !are_zeros(behind) {
-            return None;
-        }
-        Argument::new(bytes)
-    }
-}
-
 impl Part for Key {
     ghost Seen = { Key };
 
     ghost seen = { λ k. k };
 
-    ghost kind = { InputKind };
+    ghost kind = { Input };
 
     ghost body_of = { key_bytes };
 

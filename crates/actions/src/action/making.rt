@@ -7,6 +7,7 @@ ghost use Rattle.actions.specs.Views.{argument_bytes, act_of};
 
 use super::Action;
 use crate::argument::Argument;
+use crate::part::Part;
 use keys::Key;
 use lists::Few;
 

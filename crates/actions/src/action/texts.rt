@@ -43,10 +43,8 @@ impl Action {
     {
         let text = self.text();
         let bytes = text.as_slice();
-        if into.len() < bytes.len() {
-            return None;
-        }
-        into[..bytes.len()].copy_from_slice(bytes);
+        let (front, _) = into.split_at_mut_checked(bytes.len())?;
+        front.copy_from_slice(bytes);
         Some(bytes.len())
     }
 

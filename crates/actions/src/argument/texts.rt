@@ -1,13 +1,17 @@
 //! Making, writing and reading arguments.
 
-ghost use Rattle.std.specs.Prelude.{◌≡◌, if◌then◌else◌, Some, None};
+ghost use Rattle.std.specs.Prelude.{◌≡◌, ℕ, List, if◌then◌else◌, Some, None};
 ghost use Rattle.std.specs.Option.{option_map};
 ghost use Rattle.std.specs.List.{list_all};
-ghost use Rattle.actions.specs.Words.{argument_byte, is_argument, argument_body};
+ghost use Rattle.records.specs.declared.kind.Kind.TheVariants.{Argument as ArgumentKind};
+ghost use Rattle.actions.specs.Words.{argument_byte, is_argument, argument_body, read_argument_body};
 ghost use Rattle.actions.specs.Views.{argument_bytes};
 
 use super::Argument;
-use lists::Few;
+use crate::action::ActionText;
+use crate::part::Part;
+use lists::{Few, are_zeros};
+use records::Kind;
 
 /// Whether each byte may stand in an argument.
 fn are_argument_bytes(bytes: &[u8]) -> bool
@@ -35,13 +39,6 @@ impl Argument {
         Some(Argument { bytes })
     }
 
-    /// Some argument, to fill places that hold none.
-    pub(crate) fn any() -> Argument {
-        let mut bytes = Few::new(0);
-        bytes.append_what_fits(b"-");
-        Argument { bytes }
-    }
-
     /// The bytes of the argument.
     pub fn as_bytes(&self) -> &[u8]
         ensures { result.now ≡ argument_bytes self.now }
@@ -58,5 +55,40 @@ impl Argument {
         body[0] = length as u8;
         body[1..1 + length].copy_from_slice(self.as_bytes());
         body
+    }
+}
+
+impl Part for Argument {
+    ghost Seen = { List ℕ };
+
+    ghost seen = { argument_bytes };
+
+    ghost kind = { ArgumentKind };
+
+    ghost body_of = { argument_body };
+
+    ghost from_body = { read_argument_body };
+
+    fn any() -> Argument {
+        let mut bytes = Few::new(0);
+        bytes.append_what_fits(b"-");
+        Argument { bytes }
+    }
+
+    fn kind() -> Kind {
+        Kind::Argument
+    }
+
+    fn append_body(&self, text: &mut ActionText) {
+        text.append_what_fits(&self.body());
+    }
+
+    fn read_body(body: &[u8]) -> Option<Argument> {
+        let (length, room) = body.split_first()?;
+        let (bytes, behind) = room.split_at_checked(*length as usize)?;
+        if !are_zeros(behind) {
+            return None;
+        }
+        Argument::new(bytes)
     }
 }
