@@ -64,20 +64,10 @@ action_size m n = record_size Operation + (m * argument_size + (n * input_size +
 abbrev pub longest_text : ℕ
 longest_text = action_size argument_most input_most
 
--- the records of some elements, each of one size, written from a place of a buffer on, and the place behind them
-pub record Records-put {X : Type 0} (text : X → List ℕ) (size : ℕ) (xs : List X) (buffer : List ℕ) (at : ℕ) (r : Option ℕ) (after : List ℕ) : Type 0 where
-  pub place : r ≡ Some (at + length xs * size)
-  pub bytes : after ≡ paste buffer at (flat_map text xs) (length xs * size)
-  pub long : length (flat_map text xs) ≡ length xs * size
-
 -- what the record of a kind at the front of bytes holds, its body read by a reader, and the bytes behind it
 abbrev pub read_record : {X : Type 0} → Kind → (List ℕ → Option X) → List ℕ → Option (Split X)
 read_record kind body bs =
     and_then (split_record kind bs) (λ s. option_map (λ x. record { part = x; rest = s.rest }) (body s.part))
-
--- what was read, without the bytes behind it
-abbrev pub part_in : {X : Type 0} → Option (Split X) → Option X
-part_in o = option_map (λ s. s.part) o
 
 -- one element in front of those that were read
 abbrev pub before : {X : Type 0} → X → Split (List X) → Split (List X)

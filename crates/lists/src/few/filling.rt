@@ -33,7 +33,7 @@ impl<T: Copy, const N: usize> Few<T, N> {
     pub fn len(&self) -> usize
         ensures { result ≡ length (few_items self.now) }
     {
-        self.len
+        self.as_slice().len()
     }
 
     /// The things, in order.
