@@ -57,6 +57,7 @@ impl<T: Copy, const N: usize> Few<T, N> {
     }
 
     /// Puts the things of a slice behind the others, in order, as far as there is room.
+    #[tactic(auto, using(crate::proofs::Cuts::written))]
     pub fn append_what_fits(&mut self, items: &[T])
         ensures { few_items self.new ≡ take N (few_items self.old ++ items.now) }
     {
