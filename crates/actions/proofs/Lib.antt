@@ -3,3 +3,4 @@ pub mod Appends
 pub mod Scans
 pub mod Sizes
 pub mod Trips
+pub mod Texts

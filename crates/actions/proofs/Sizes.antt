@@ -51,7 +51,7 @@ each_argument : (ws : List Argument) → list_all is_argument (map argument_byte
 each_argument [] = refl
 each_argument (w ∷ ws) = and_from _ _ w.good (each_argument ws)
 
--- there is room for the text of every action of the code
+-- there is room for the text of every action
 pub length_of_action : (a : Action) → length (action_text (act_of a)) ≤ longest_text
 length_of_action a =
     let l = length_text (act_of a) (each_argument (few_items a.arguments)) in

@@ -33,7 +33,7 @@ pub(crate) trait Part: Copy {
     ghost from_body: { List ℕ → Option Seen };
 
     /// Some part, to fill places that hold none.
-    fn any() -> Self;
+    fn filler() -> Self;
 
     /// The kind of its records.
     fn kind() -> Kind
@@ -59,7 +59,7 @@ impl Part for Key {
 
     ghost from_body = { read_key };
 
-    fn any() -> Key {
+    fn filler() -> Key {
         Key::new([0; 4], 0)
     }
 
@@ -106,12 +106,13 @@ fn read_part<P: Part>(bytes: &[u8]) -> Option<(P, &[u8])>
 pub(crate) fn read_parts<P: Part, const N: usize>(bytes: &[u8]) -> (Few<P, N>, &[u8])
     ensures { parts_read P.seen result ≡ several (read_record P.kind P.from_body) N bytes.now }
 {
-    let mut parts = Few::new(P::any());
+    let mut parts = Few::new(P::filler());
     let mut rest = bytes;
     for _ in 0..N {
         let Some(front) = read_part(rest) else {
             return (parts, rest);
         };
+        // never refused: fewer than N were read
         let _ = parts.push(front.0);
         rest = front.1;
     }

@@ -22,7 +22,7 @@ impl Action {
         }
         Some(Action {
             letter,
-            arguments: Few::from_slice(Argument::any(), arguments)?,
+            arguments: Few::from_slice(Argument::filler(), arguments)?,
             inputs: Few::from_slice(*first, inputs)?,
         })
     }

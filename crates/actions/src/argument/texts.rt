@@ -28,6 +28,7 @@ fn is_argument(bytes: &[u8]) -> bool
 }
 
 impl Argument {
+    // kept: bytes that are no argument have no reason to tell, so `TryFrom` would add an error that says nothing.
     /// The argument of these bytes; absent where they are not 1 to 16 bytes of 33 to 126.
     pub fn new(bytes: &[u8]) -> Option<Argument>
         ensures { option_map argument_bytes result ≡ (if is_argument bytes.now then Some bytes.now else None) }
@@ -69,7 +70,7 @@ impl Part for Argument {
 
     ghost from_body = { read_argument_body };
 
-    fn any() -> Argument {
+    fn filler() -> Argument {
         let mut bytes = Few::new(0);
         bytes.append_what_fits(b"-");
         Argument { bytes }
