@@ -2,11 +2,17 @@ use Rattle.std.proofs.Common.{◌≡◌, ℕ, ◌+◌, ◌<◌, ◌≤◌, List,
 use Rattle.std.specs.List.{flat_map}
 use Rattle.std.proofs.lemmas.List.{append-nil, append_assoc, flat_map_more, take_all, take_more}
 use Rattle.lists.proofs.Cuts.{cut_again}
+use Rattle.records.specs.declared.kind.Kind.{Kind}
+use Rattle.records.specs.Records.{kind_number, record_bytes}
 
 -- what is put behind a text in two steps, each as far as there is room
-pub appended : (n : ℕ) (xs ys zs mid new : List ℕ) → mid ≡ take n (xs ++ ys) → new ≡ take n (mid ++ zs) → new ≡ take n (xs ++ (ys ++ zs))
+appended : (n : ℕ) (xs ys zs mid new : List ℕ) → mid ≡ take n (xs ++ ys) → new ≡ take n (mid ++ zs) → new ≡ take n (xs ++ (ys ++ zs))
 appended n xs ys zs mid new e f =
     f ∙ (ap (λ ws. take n (ws ++ zs)) e ∙ (cut_again n (xs ++ ys) zs ∙ ap (take n) (append_assoc xs ys zs)))
+
+-- the kind of a record put behind a text, then its body
+pub record_appended : (n b : ℕ) (kind : Kind) (body old mid new : List ℕ) → mid ≡ take n (old ++ b ∷ []) → b ≡ kind_number kind → new ≡ take n (mid ++ body) → new ≡ take n (old ++ record_bytes kind body)
+record_appended n b kind body old mid new e k f = appended n old (b ∷ []) body mid new e f ∙ ap (λ x. take n (old ++ x ∷ body)) k
 
 -- no record is put yet
 pub append_none : (n : ℕ) (text : List ℕ) → length text ≤ n → text ≡ take n (text ++ [])
