@@ -1,4 +1,4 @@
-use Rattle.std.proofs.Common.{◌≡◌, ℕ, zero, suc, ◌-◌, ◌≤◌, Bool, true, false, cond, ◌&&◌, eqb, leb, List, [], ◌∷◌, ◌++◌, length, take, drop, replicate, Some, None, Option, sym, refl, ap, ◌∙◌, subst, arith}
+use Rattle.std.proofs.Common.{◌≡◌, ℕ, zero, suc, ◌-◌, ◌≤◌, true, false, cond, ◌&&◌, eqb, leb, List, [], ◌∷◌, ◌++◌, length, take, drop, replicate, Some, None, Option, sym, refl, ap, ◌∙◌, subst, arith}
 use Rattle.std.specs.List.{flat_map, list_all, AllByRecursion as All}
 use Rattle.std.specs.Option.{option_map}
 use Rattle.std.specs.Int.Digits.{AllBelowBase}
@@ -32,22 +32,18 @@ body_back w t =
     (and_from _ _ (ap is_argument p ∙ t) (ap (list_all (eqb 0)) q ∙ zeros_zero (16 - length w))) in
     ap (λ b. cond b (Some (take (length w) (w ++ pad))) None) test ∙ ap Some p
 
-body_only_from : (n : ℕ) (bs w : List ℕ) (b : Bool) → length bs ≡ 16 → b ≡ (leb n (length bs) && (is_argument (take n bs) && list_all (eqb 0) (drop n bs))) → cond b (Some (take n bs)) None ≡ Some w → n ∷ bs ≡ argument_body w
-body_only_from n bs w true long t h =
-    let p = and_parts (leb n (length bs)) _ (sym t) in
+body_only : (bs w : List ℕ) → length bs ≡ 17 → read_argument_body bs ≡ Some w → bs ≡ argument_body w
+body_only [] w long h = absurd (omega arith)
+body_only (n ∷ bs) w long h =
+    let made = cond_some _ (take n bs) w h in
+    let p = and_parts (leb n (length bs)) _ made.0 in
     let q = and_parts (is_argument (take n bs)) _ p.1 in
     let short = leb-true n (length bs) p.0 in
-    let e : take n bs ≡ w = cc in
-    let ln : length w ≡ n = ap length (sym e) ∙ length-take-le n bs short in
+    let ln : length w ≡ n = ap length (sym made.1) ∙ length-take-le n bs short in
     let ld = length-drop n bs in
     let lz : length (drop n bs) ≡ 16 - length w = omega arith in
     let z : drop n bs ≡ replicate (16 - length w) 0 = zeros_only (drop n bs) q.1 ∙ ap (λ k. replicate k 0) lz in
-    ap (λ k. k ∷ bs) (sym ln) ∙ ap (λ xs. length w ∷ xs) (sym (take-append-drop n bs) ∙ (ap (λ xs. xs ++ drop n bs) e ∙ ap (λ xs. w ++ xs) z))
-body_only_from n bs w false long t h = let z : ◌≡◌ {A = ℕ} 0 1 = cc in absurd (omega arith)
-
-body_only : (bs w : List ℕ) → length bs ≡ 17 → read_argument_body bs ≡ Some w → bs ≡ argument_body w
-body_only [] w long h = absurd (omega arith)
-body_only (n ∷ bs) w long h = body_only_from n bs w _ (omega arith) refl h
+    ap (λ k. k ∷ bs) (sym ln) ∙ ap (λ xs. length w ∷ xs) (sym (take-append-drop n bs) ∙ (ap (λ xs. xs ++ drop n bs) made.1 ∙ ap (λ xs. w ++ xs) z))
 
 mapped_some : {X Y : Type 0} (f : X → Y) (o : Option X) (y : Y) → option_map f o ≡ Some y → (x : X) × (o ≡ Some x) × (f x ≡ y)
 mapped_some f None y h = absurd (none-some y h)

@@ -43,5 +43,4 @@ impl Action {
 /// Carries the theorem that actions read back from their texts, and that no other bytes read as them.
 pub fn actions_round_trip()
     ensures { ActionsRoundTrip }
-{
-}
+{}

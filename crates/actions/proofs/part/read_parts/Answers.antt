@@ -24,7 +24,7 @@ loop-preserved g c =
     record {
       count = omega arith;
       read =
-        c.loop.invariant.read
-        ∙ (read_more (read_record t.kind t.from_body) (g.row.N - c.loop.counter) left c.loop.rest.now (map t.seen parts) _ (omega arith) (sym c.read_part.ensures ∙ ap (option_map (part_read t.seen)) c.in-Some.is)
-        ∙ ap (λ ys. all_before ys (several (read_record t.kind t.from_body) left c.in-Some.front.1.now)) (sym (ap (map t.seen) more ∙ map_push t.seen parts part)));
+          c.loop.invariant.read
+          ∙ (read_more (read_record t.kind t.from_body) (g.row.N - c.loop.counter) left c.loop.rest.now (map t.seen parts) _ (omega arith) (sym c.read_part.ensures ∙ ap (option_map (part_read t.seen)) c.in-Some.is)
+          ∙ ap (λ ys. all_before ys (several (read_record t.kind t.from_body) left c.in-Some.front.1.now)) (sym (ap (map t.seen) more ∙ map_push t.seen parts part)));
     }

@@ -9,6 +9,6 @@ invariant-loop g l =
     record {
       count : length (few_items l.parts) ≡ l.counter;
       read :
-        several (read_record g.P.Part.kind g.P.Part.from_body) g.row.N l.bytes
-        ≡ all_before (map g.P.Part.seen (few_items l.parts)) (several (read_record g.P.Part.kind g.P.Part.from_body) (g.row.N - l.counter) l.rest)
+          several (read_record g.P.Part.kind g.P.Part.from_body) g.row.N l.bytes
+          ≡ all_before (map g.P.Part.seen (few_items l.parts)) (several (read_record g.P.Part.kind g.P.Part.from_body) (g.row.N - l.counter) l.rest);
     }
