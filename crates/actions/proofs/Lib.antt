@@ -1,9 +1,6 @@
 pub mod Tests
-pub mod Rooms
-pub mod Puts
-pub mod Makes
-pub mod Sizes
-pub mod Bodies
+pub mod Appends
 pub mod Scans
-pub mod Wholes
+pub mod Sizes
 pub mod Trips
+pub mod Texts

@@ -1,9 +1,10 @@
-use Rattle.std.proofs.Common.{◌≡◌, ℕ, zero, suc, ◌-◌, ◌≤◌, Bool, true, false, cond, ◌&&◌, eqb, leb, List, [], ◌∷◌, ◌++◌, length, take, drop, replicate, Some, None, Option, sym, refl, ap, ◌∙◌, subst, arith}
-use Rattle.std.specs.List.{flat_map, AllByRecursion as All}
+use Rattle.std.proofs.Common.{◌≡◌, ℕ, zero, suc, ◌-◌, ◌≤◌, true, false, cond, ◌&&◌, eqb, leb, List, [], ◌∷◌, ◌++◌, length, take, drop, replicate, Some, None, Option, sym, refl, ap, ◌∙◌, subst, arith}
+use Rattle.std.specs.List.{flat_map, list_all, AllByRecursion as All}
 use Rattle.std.specs.Option.{option_map}
 use Rattle.std.specs.Int.Digits.{AllBelowBase}
 use Rattle.std.proofs.lemmas.List.{append_assoc, length-append, length-drop, length-take-le, take_at, drop_at, take-append-drop, nil_from_length}
 use Rattle.std.proofs.lemmas.Bool.{and_from, and_parts, and_left, le-leb, leb-true, ne_eqb}
+use Rattle.std.proofs.lemmas.Option.{cond_some, none-some}
 use Rattle.keys.specs.Keys.{key_bytes, read_key}
 use Rattle.keys.specs.declared.key.Key.{Key}
 use Rattle.keys.proofs.Trips as KeysTrip
@@ -12,12 +13,10 @@ use Rattle.records.specs.declared.kind.Kind.TheVariants.{End, Operation, Argumen
 use Rattle.records.specs.Records.{Split, kind_number, body_length, record_size, record_bytes, begins_record, split_record, and_then, alone}
 use Rattle.records.proofs.Fronts.{split_back, split_only}
 use Rattle.records.proofs.Trips.{then_some, alone_only, alone_some, under_left, under_right}
-use Rattle.lists.specs.Each.{each}
 use Rattle.lists.proofs.Tests.{zeros_zero, zeros_only}
 use Rattle.actions.specs.Words.{is_letter, is_argument, argument_body, read_argument_body}
 use Rattle.actions.specs.Actions.{Act, is_action, make_action, action_text, action_size, operation_record, argument_record, input_record, read_record, before, several, read_letter, read_argument, read_input, read_inputs, read_arguments, read_action, longest_text}
-use Rattle.actions.proofs.Bodies.{some_means}
-use Rattle.actions.proofs.Scans.{mapped_some, several_none, several_some}
+use Rattle.actions.proofs.Scans.{several_none, several_some}
 use Rattle.actions.proofs.Sizes.{length-argument_body, length_text}
 use Rattle.actions.proofs.Tests.{argument_parts}
 
@@ -28,27 +27,27 @@ body_back w t =
     let a = length-append w pad in
     let p = take_at w pad (length w) refl in
     let q = drop_at w pad (length w) refl in
-    let test : (leb (length w) (length (w ++ pad)) && (is_argument (take (length w) (w ++ pad)) && each (eqb 0) (drop (length w) (w ++ pad)))) ≡ true =
+    let test : (leb (length w) (length (w ++ pad)) && (is_argument (take (length w) (w ++ pad)) && list_all (eqb 0) (drop (length w) (w ++ pad)))) ≡ true =
     and_from (leb (length w) (length (w ++ pad))) _ (le-leb (length w) (length (w ++ pad)) (omega arith))
-    (and_from _ _ (ap is_argument p ∙ t) (ap (each (eqb 0)) q ∙ zeros_zero (16 - length w))) in
+    (and_from _ _ (ap is_argument p ∙ t) (ap (list_all (eqb 0)) q ∙ zeros_zero (16 - length w))) in
     ap (λ b. cond b (Some (take (length w) (w ++ pad))) None) test ∙ ap Some p
-
-body_only_from : (n : ℕ) (bs w : List ℕ) (b : Bool) → length bs ≡ 16 → b ≡ (leb n (length bs) && (is_argument (take n bs) && each (eqb 0) (drop n bs))) → cond b (Some (take n bs)) None ≡ Some w → n ∷ bs ≡ argument_body w
-body_only_from n bs w true long t h =
-    let p = and_parts (leb n (length bs)) _ (sym t) in
-    let q = and_parts (is_argument (take n bs)) _ p.1 in
-    let short = leb-true n (length bs) p.0 in
-    let e : take n bs ≡ w = cc in
-    let ln : length w ≡ n = ap length (sym e) ∙ length-take-le n bs short in
-    let ld = length-drop n bs in
-    let lz : length (drop n bs) ≡ 16 - length w = omega arith in
-    let z : drop n bs ≡ replicate (16 - length w) 0 = zeros_only (drop n bs) q.1 ∙ ap (λ k. replicate k 0) lz in
-    ap (λ k. k ∷ bs) (sym ln) ∙ ap (λ xs. length w ∷ xs) (sym (take-append-drop n bs) ∙ (ap (λ xs. xs ++ drop n bs) e ∙ ap (λ xs. w ++ xs) z))
-body_only_from n bs w false long t h = let z : ◌≡◌ {A = ℕ} 0 1 = cc in absurd (omega arith)
 
 body_only : (bs w : List ℕ) → length bs ≡ 17 → read_argument_body bs ≡ Some w → bs ≡ argument_body w
 body_only [] w long h = absurd (omega arith)
-body_only (n ∷ bs) w long h = body_only_from n bs w _ (omega arith) refl h
+body_only (n ∷ bs) w long h =
+    let made = cond_some _ (take n bs) w h in
+    let p = and_parts (leb n (length bs)) _ made.0 in
+    let q = and_parts (is_argument (take n bs)) _ p.1 in
+    let short = leb-true n (length bs) p.0 in
+    let ln : length w ≡ n = ap length (sym made.1) ∙ length-take-le n bs short in
+    let ld = length-drop n bs in
+    let lz : length (drop n bs) ≡ 16 - length w = omega arith in
+    let z : drop n bs ≡ replicate (16 - length w) 0 = zeros_only (drop n bs) q.1 ∙ ap (λ k. replicate k 0) lz in
+    ap (λ k. k ∷ bs) (sym ln) ∙ ap (λ xs. length w ∷ xs) (sym (take-append-drop n bs) ∙ (ap (λ xs. xs ++ drop n bs) made.1 ∙ ap (λ xs. w ++ xs) z))
+
+mapped_some : {X Y : Type 0} (f : X → Y) (o : Option X) (y : Y) → option_map f o ≡ Some y → (x : X) × (o ≡ Some x) × (f x ≡ y)
+mapped_some f None y h = absurd (none-some y h)
+mapped_some f (Some x) y h = (x, refl, cc)
 
 -- what a record holds reads back, and bytes that read so begin with that record
 record_back : {X : Type 0} (kind : Kind) (reader : List ℕ → Option X) (body rest : List ℕ) (x : X) → length body ≡ body_length kind → reader body ≡ Some x → read_record kind reader (record_bytes kind body ++ rest) ≡ Some (record { part = x; rest = rest })
@@ -102,10 +101,10 @@ argument_back : (w rest : List ℕ) → is_argument w ≡ true → read_argument
 argument_back w rest t =
     record_back Argument read_argument_body (argument_body w) rest w (length-argument_body w (argument_parts w t).1) (body_back w t)
 
-arguments_back : (ws : List (List ℕ)) → each is_argument ws ≡ true → All (λ w. (r : List ℕ) → read_argument (argument_record w ++ r) ≡ Some (record { part = w; rest = r })) ws
+arguments_back : (ws : List (List ℕ)) → list_all is_argument ws ≡ true → All (λ w. (r : List ℕ) → read_argument (argument_record w ++ r) ≡ Some (record { part = w; rest = r })) ws
 arguments_back [] t = tt
 arguments_back (w ∷ ws) t =
-    let p = and_parts (is_argument w) (each is_argument ws) t in
+    let p = and_parts (is_argument w) (list_all is_argument ws) t in
     (λ r. argument_back w r p.0, arguments_back ws p.1)
 
 inputs_back : (ks : List Key) → All (λ k. (r : List ℕ) → read_input (input_record k ++ r) ≡ Some (record { part = k; rest = r })) ks
@@ -136,8 +135,8 @@ back a t =
     let ws = a.arguments in
     let ks = a.inputs in
     let p = and_parts (is_letter l) _ t in
-    let q = and_parts (leb (length ws) 2 && each is_argument ws) _ p.1 in
-    let r = and_parts (leb (length ws) 2) (each is_argument ws) q.0 in
+    let q = and_parts (leb (length ws) 2 && list_all is_argument ws) _ p.1 in
+    let r = and_parts (leb (length ws) 2) (list_all is_argument ws) q.0 in
     let m = and_parts (leb 1 (length ks)) (leb (length ks) 4) q.1 in
     let inputs = flat_map input_record ks ++ 0 ∷ [] in
     let first : read_record Operation read_letter (action_text a) ≡ Some (record { part = l; rest = flat_map argument_record ws ++ inputs }) =
@@ -178,12 +177,12 @@ only bs a u h =
     let last = then_some (and_then (split_record End K.rest) alone) (λ _. make_action o.part W.part K.part) a first.2 in
     let end = end_only K.rest last.0 last.1 in
     let made : Act = record { letter = o.part; arguments = W.part; inputs = K.part } in
-    let m = some_means (is_action made) made a (sym last.2) in
+    let m = cond_some (is_action made) made a last.2 in
     let text : bs ≡ action_text made =
     op.1 ∙ (ap (λ xs. record_bytes Operation xs ++ o.rest) body ∙ (ap (λ xs. operation_record o.part ++ xs) ws
     ∙ (ap (λ xs. operation_record o.part ++ (flat_map argument_record W.part ++ xs)) ks
     ∙ ap (λ xs. operation_record o.part ++ (flat_map argument_record W.part ++ (flat_map input_record K.part ++ xs))) end))) in
-    (text ∙ ap action_text (sym m.1), ap is_action m.1 ∙ m.0)
+    (text ∙ ap action_text m.1, ap is_action (sym m.1) ∙ m.0)
 
 -- different actions have different texts
 pub apart : (a b : Act) → is_action a ≡ true → is_action b ≡ true → action_text a ≡ action_text b → a ≡ b
@@ -194,8 +193,8 @@ apart a b p q e =
 pub sizes : (a : Act) → is_action a ≡ true → (length (action_text a) ≡ action_size (length a.arguments) (length a.inputs)) × (length (action_text a) ≤ longest_text)
 sizes a t =
     let p = and_parts (is_letter a.letter) _ t in
-    let q = and_parts (leb (length a.arguments) 2 && each is_argument a.arguments) _ p.1 in
-    let r = and_parts (leb (length a.arguments) 2) (each is_argument a.arguments) q.0 in
+    let q = and_parts (leb (length a.arguments) 2 && list_all is_argument a.arguments) _ p.1 in
+    let r = and_parts (leb (length a.arguments) 2) (list_all is_argument a.arguments) q.0 in
     let m = and_parts (leb 1 (length a.inputs)) (leb (length a.inputs) 4) q.1 in
     let l = length_text a r.1 in
     let x = leb-true (length a.arguments) 2 r.0 in

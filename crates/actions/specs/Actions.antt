@@ -1,5 +1,4 @@
 use Rattle.std.specs.Prelude.{◌≡◌, ℕ, zero, suc, ◌+◌, ◌*◌, ◌≤◌, Bool, true, cond, ◌&&◌, List, [], ◌∷◌, ◌++◌, length, Some, None, Option, nat_le}
-use Rattle.std.proofs.Math.Seq.{paste}
 use Rattle.std.specs.List.{flat_map}
 use Rattle.std.specs.Option.{option_map}
 use Rattle.std.specs.Int.Digits.{AllBelowBase}
@@ -8,7 +7,7 @@ use Rattle.keys.specs.declared.key.Key.{Key}
 use Rattle.records.specs.declared.kind.Kind.{Kind}
 use Rattle.records.specs.declared.kind.Kind.TheVariants.{End, Operation, Argument, Input}
 use Rattle.records.specs.Records.{Split, record_bytes, record_size, split_record, and_then, alone}
-use Rattle.lists.specs.Each.{each}
+use Rattle.std.specs.List.{list_all}
 use Rattle.actions.specs.Words.{is_letter, is_argument, argument_body, read_argument_body}
 
 -- what a step does, and to which inputs: an operation, its arguments, the keys of its inputs in order
@@ -27,7 +26,7 @@ input_most = 4
 -- an action: a letter A to Z, up to 2 arguments, 1 to 4 inputs
 abbrev pub is_action : Act → Bool
 is_action a =
-    is_letter a.letter && ((nat_le (length a.arguments) argument_most && each is_argument a.arguments)
+    is_letter a.letter && ((nat_le (length a.arguments) argument_most && list_all is_argument a.arguments)
     && (nat_le 1 (length a.inputs) && nat_le (length a.inputs) input_most))
 
 -- the action of these parts, where they make one
@@ -64,20 +63,10 @@ action_size m n = record_size Operation + (m * argument_size + (n * input_size +
 abbrev pub longest_text : ℕ
 longest_text = action_size argument_most input_most
 
--- the records of some elements, each of one size, written from a place of a buffer on, and the place behind them
-pub record Records-put {X : Type 0} (text : X → List ℕ) (size : ℕ) (xs : List X) (buffer : List ℕ) (at : ℕ) (r : Option ℕ) (after : List ℕ) : Type 0 where
-  pub place : r ≡ Some (at + length xs * size)
-  pub bytes : after ≡ paste buffer at (flat_map text xs) (length xs * size)
-  pub long : length (flat_map text xs) ≡ length xs * size
-
 -- what the record of a kind at the front of bytes holds, its body read by a reader, and the bytes behind it
 abbrev pub read_record : {X : Type 0} → Kind → (List ℕ → Option X) → List ℕ → Option (Split X)
 read_record kind body bs =
     and_then (split_record kind bs) (λ s. option_map (λ x. record { part = x; rest = s.rest }) (body s.part))
-
--- what was read, without the bytes behind it
-abbrev pub part_in : {X : Type 0} → Option (Split X) → Option X
-part_in o = option_map (λ s. s.part) o
 
 -- one element in front of those that were read
 abbrev pub before : {X : Type 0} → X → Split (List X) → Split (List X)

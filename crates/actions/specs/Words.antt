@@ -1,5 +1,6 @@
 use Rattle.std.specs.Prelude.{ℕ, ◌-◌, Bool, cond, ◌&&◌, List, [], ◌∷◌, ◌++◌, length, take, drop, replicate, Some, None, Option, nat_le}
-use Rattle.lists.specs.Each.{each, all_zero}
+use Rattle.std.specs.List.{list_all}
+use Rattle.lists.specs.Each.{all_zero}
 use Rattle.records.specs.Records.{argument_room}
 
 -- a byte that an argument may have: no space, no control, nothing beyond ASCII
@@ -8,7 +9,7 @@ argument_byte b = nat_le 33 b && nat_le b 126
 
 -- an argument: 1 to 16 such bytes
 abbrev pub is_argument : List ℕ → Bool
-is_argument w = nat_le 1 (length w) && (nat_le (length w) argument_room && each argument_byte w)
+is_argument w = nat_le 1 (length w) && (nat_le (length w) argument_room && list_all argument_byte w)
 
 -- the body of an argument record: the length, the bytes, zeros up to the room
 abbrev pub argument_body : List ℕ → List ℕ

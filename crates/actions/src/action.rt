@@ -1,25 +1,40 @@
 //! An action: what a step does, and to which inputs.
 
-ghost use Rattle.std.specs.Prelude.{◌≡◌, ◌≤◌, true};
+ghost use Rattle.std.specs.Prelude.{◌≡◌, ◌≤◌, true, length};
+ghost use Rattle.lists.specs.Few.{few_items};
 ghost use Rattle.actions.specs.Words.{is_letter};
 
 use crate::argument::Argument;
 use keys::Key;
+use lists::Few;
 
-pub mod keyed;
+pub mod making;
 pub mod reading;
 pub mod texts;
+
+const OPERATION_RECORD: usize = 1 + 1;
+
+const ARGUMENT_RECORD: usize = 1 + 1 + 16;
+
+const INPUT_RECORD: usize = 1 + Key::SIZE;
+
+const END_RECORD: usize = 1;
+
+/// The text of an action: up to 187 bytes.
+pub type ActionText = Few<u8, { Action::LONGEST }>;
 
 /// A letter A to Z, up to 2 arguments and 1 to 4 keys of inputs, in order.
 #[derive(Clone, Copy)]
 pub struct Action {
     letter: u8,
-    arguments: [Argument; 2],
-    argument_count: usize,
-    inputs: [Key; 4],
-    input_count: usize,
+    arguments: Few<Argument, 2>,
+    inputs: Few<Key, 4>,
     ghost capital: { is_letter letter ≡ true },
-    ghost few: { argument_count ≤ 2 },
-    ghost some: { 1 ≤ input_count },
-    ghost most: { input_count ≤ 4 },
+    ghost some: { 1 ≤ length (few_items inputs) },
+}
+
+impl Action {
+    /// The size of the longest action text: 187 bytes.
+    pub const LONGEST: usize = OPERATION_RECORD
+        + (2 * ARGUMENT_RECORD + (4 * INPUT_RECORD + END_RECORD));
 }

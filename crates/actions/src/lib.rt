@@ -4,7 +4,8 @@
 
 pub mod action;
 pub mod argument;
+mod part;
 
-pub use self::action::Action;
 pub use self::action::reading::actions_round_trip;
+pub use self::action::{Action, ActionText};
 pub use self::argument::Argument;

@@ -62,8 +62,8 @@ pub fn key_from_text(text: &[u8]) -> Option<Key>
 pub fn action_lines<D: Digest>(heap: Global, action: &Action) -> Result<String, AllocError>
     ensures { IfOk result (λ t. option_map (action_lines (action_text (act_of action.now))) (key_of D.Digest.most D.Digest.words (action_text (act_of action.now))) ≡ Some (string_bytes t)) }
 {
-    let (room, size) = action.text();
-    let text = hex_text(heap, &room[0..size])?;
+    let bytes = action.text();
+    let text = hex_text(heap, bytes.as_slice())?;
     let key = key_text(heap, &action.key::<D>())?;
     format!(in heap; "text {text}\nkey {key}")
 }

@@ -48,10 +48,12 @@ fn try_action(
     action: &Action,
     digits: &str,
 ) -> anyhow::Result<()> {
-    let (room, size) = action.text();
-    let same = is_hex(rt, &room[0..size], digits)?;
-    let word = score.count(same && Action::read(&room[0..size]).is_some());
-    let cut = score.count(size > 0 && Action::read(&room[0..size - 1]).is_none());
+    let text = action.text();
+    let bytes = text.as_slice();
+    let size = bytes.len();
+    let same = is_hex(rt, bytes, digits)?;
+    let word = score.count(same && Action::read(bytes).is_some());
+    let cut = score.count(size > 0 && Action::read(&bytes[0..size - 1]).is_none());
     println!(rt; "{word} an action text of {size} bytes reads back")?;
     println!(rt; "{cut} one byte less does not")?;
     Ok(())
@@ -78,8 +80,8 @@ fn damage(text: &mut [u8]) -> Damaged {
             None => seen.refused = seen.refused.saturating_add(1),
             Some(changed) => {
                 seen.other = seen.other.saturating_add(1);
-                let (room, size) = changed.text();
-                seen.good = seen.good && room[0..size] == text[0..text.len()];
+                let whole = changed.text();
+                seen.good = seen.good && whole.as_slice() == &text[..];
             }
         }
         text[i] ^= 1;
@@ -88,7 +90,10 @@ fn damage(text: &mut [u8]) -> Damaged {
 }
 
 fn try_damaged(rt: &HostRuntime, score: &mut Score, action: &Action) -> anyhow::Result<()> {
-    let (mut room, size) = action.text();
+    let mut room = [0u8; Action::LONGEST];
+    let Some(size) = action.write(&mut room) else {
+        return Err(anyhow!("no room for a text"));
+    };
     let seen = damage(&mut room[0..size]);
     let word = score.count(seen.good);
     let refused = seen.refused;

@@ -1,85 +1,38 @@
-//! Making actions, and writing their texts.
+//! The texts of actions, and their keys.
 
-ghost use Rattle.std.specs.Prelude.{◌≡◌, ◌+◌, ◌*◌, ◌≤◌, map, length};
-ghost use Rattle.std.specs.Option.{option_map};
+ghost use Rattle.std.specs.Prelude.{◌≡◌, length, Some};
+ghost use Rattle.keys.specs.Digests.{key_of};
+ghost use Rattle.lists.specs.Few.{few_items};
 ghost use Rattle.records.specs.Results.{front_size, with_front};
-ghost use Rattle.actions.specs.Words.{is_letter};
-ghost use Rattle.actions.specs.Actions.{make_action, action_text, argument_size, input_size, action_size, input_record, Records-put};
-ghost use Rattle.actions.specs.Views.{argument_bytes, argument_text, act_of};
+ghost use Rattle.actions.specs.Actions.{action_text, action_size};
+ghost use Rattle.actions.specs.Views.{act_of};
 
-use super::Action;
-use crate::argument::Argument;
-use keys::Key;
-use records::{Kind, put_record};
-
-const OPERATION_RECORD: usize = 1 + 1;
-
-pub(crate) const ARGUMENT_RECORD: usize = 1 + 1 + 16;
-
-pub(crate) const INPUT_RECORD: usize = 1 + Key::SIZE;
-
-const END_RECORD: usize = 1;
-
-/// Whether a byte is a letter A to Z.
-fn is_letter(b: u8) -> bool
-    ensures { result ≡ is_letter b }
-{
-    b >= 65 && b <= 90
-}
+use super::{ARGUMENT_RECORD, Action, ActionText, END_RECORD, INPUT_RECORD, OPERATION_RECORD};
+use crate::part::{append_parts, append_record};
+use keys::{Digest, Key, key_of};
+use lists::Few;
+use records::Kind;
 
 impl Action {
-    /// The size of the longest action text: 187 bytes.
-    pub const LONGEST: usize = OPERATION_RECORD
-        + (2 * ARGUMENT_RECORD + (4 * INPUT_RECORD + END_RECORD));
-
-    /// The action of these parts; absent unless they are a letter A to Z, up to 2 arguments and 1 to 4 inputs.
-    pub fn new(letter: u8, arguments: &[Argument], inputs: &[Key]) -> Option<Action>
-        ensures { option_map act_of result ≡ make_action letter (map argument_bytes arguments.now) inputs.now }
-    {
-        if !is_letter(letter) || arguments.len() > 2 || inputs.is_empty() || inputs.len() > 4 {
-            return None;
-        }
-        let mut argument_room = [Argument::any(); 2];
-        argument_room[0..arguments.len()].copy_from_slice(arguments);
-        let mut input_room = [inputs[0]; 4];
-        input_room[0..inputs.len()].copy_from_slice(inputs);
-        Some(Action {
-            letter,
-            arguments: argument_room,
-            argument_count: arguments.len(),
-            inputs: input_room,
-            input_count: inputs.len(),
-        })
-    }
-
-    /// The letter of the operation.
-    pub fn letter(&self) -> u8
-        ensures { result ≡ (act_of self.now).letter }
-    {
-        self.letter
-    }
-
-    /// The arguments, in order.
-    pub fn arguments(&self) -> &[Argument]
-        ensures { map argument_bytes result.now ≡ (act_of self.now).arguments }
-    {
-        &self.arguments[0..self.argument_count]
-    }
-
-    /// The keys of the inputs, in order.
-    pub fn inputs(&self) -> &[Key]
-        ensures { result.now ≡ (act_of self.now).inputs }
-    {
-        &self.inputs[0..self.input_count]
-    }
-
     /// The size of the action's text.
     pub fn size(&self) -> usize
         ensures { result ≡ action_size (length (act_of self.now).arguments) (length (act_of self.now).inputs) }
     {
         OPERATION_RECORD
-            + (self.argument_count * ARGUMENT_RECORD
-                + (self.input_count * INPUT_RECORD + END_RECORD))
+            + (self.arguments.len() * ARGUMENT_RECORD
+                + (self.inputs.len() * INPUT_RECORD + END_RECORD))
+    }
+
+    /// The action's text; there is room for the longest.
+    pub fn text(&self) -> ActionText
+        ensures { few_items result ≡ action_text (act_of self.now) }
+    {
+        let mut text = Few::new(0);
+        append_record(&mut text, Kind::Operation, &[self.letter]);
+        append_parts(&mut text, self.arguments());
+        append_parts(&mut text, self.inputs());
+        append_record(&mut text, Kind::End, &[]);
+        text
     }
 
     /// Writes the action's text at the front of a buffer, and answers its size; absent, and nothing is written, where
@@ -88,36 +41,18 @@ impl Action {
         ensures answer { result ≡ front_size (action_text (act_of self.now)) into.old }
         ensures after { into.new ≡ with_front (action_text (act_of self.now)) into.old }
     {
-        if into.len() < self.size() {
-            return None;
-        }
-        let at = put_record(into, 0, Kind::Operation, &[self.letter])?;
-        let at = put_arguments(into, at, self.arguments())?;
-        let at = put_inputs(into, at, self.inputs())?;
-        put_record(into, at, Kind::End, &[])
+        let text = self.text();
+        let bytes = text.as_slice();
+        let (front, _) = into.split_at_mut_checked(bytes.len())?;
+        front.copy_from_slice(bytes);
+        Some(bytes.len())
     }
-}
 
-/// Writes the records of arguments at a place with room for them, and answers the place behind them.
-fn put_arguments(into: &mut [u8], at: usize, arguments: &[Argument]) -> Option<usize>
-    requires { at + length arguments.now * argument_size ≤ length into.old }
-    ensures { Records-put argument_text argument_size arguments.now into.old at result into.new }
-{
-    let mut place = at;
-    for argument in arguments {
-        place = put_record(into, place, Kind::Argument, &argument.body())?;
+    /// The key of the action's text under a digest, which names the step in a trace cache.
+    pub fn key<D: Digest>(&self) -> Key
+        ensures { Some result ≡ key_of D.Digest.most D.Digest.words (action_text (act_of self.now)) }
+    {
+        let text = self.text();
+        key_of::<D>(text.as_slice()).unwrap()
     }
-    Some(place)
-}
-
-/// Writes the records of inputs at a place with room for them, and answers the place behind them.
-fn put_inputs(into: &mut [u8], at: usize, inputs: &[Key]) -> Option<usize>
-    requires { at + length inputs.now * input_size ≤ length into.old }
-    ensures { Records-put input_record input_size inputs.now into.old at result into.new }
-{
-    let mut place = at;
-    for key in inputs {
-        place = put_record(into, place, Kind::Input, &key.to_bytes())?;
-    }
-    Some(place)
 }
