@@ -15,7 +15,6 @@ ghost use Rattle.actions.specs.Views.{part_read, parts_read};
 use crate::action::ActionText;
 use keys::Key;
 use lists::Few;
-use records::parts::kind_number;
 use records::{Kind, split_record};
 
 /// What has records of one kind, and bodies that it writes and reads.
@@ -80,7 +79,7 @@ impl Part for Key {
 pub(crate) fn append_record(text: &mut ActionText, kind: Kind, body: &[u8])
     ensures { few_items text.new ≡ take longest_text (few_items text.old ++ record_bytes kind body.now) }
 {
-    text.append_what_fits(&[kind_number(kind)]);
+    text.append_what_fits(&[u8::from(kind)]);
     text.append_what_fits(body);
 }
 
@@ -89,7 +88,7 @@ pub(crate) fn append_parts<P: Part>(text: &mut ActionText, parts: &[P])
     ensures { few_items text.new ≡ take longest_text (few_items text.old ++ flat_map (λ x. record_bytes P.kind (P.body_of (P.seen x))) parts.now) }
 {
     for part in parts {
-        text.append_what_fits(&[kind_number(P::kind())]);
+        text.append_what_fits(&[u8::from(P::kind())]);
         part.append_body(text);
     }
 }

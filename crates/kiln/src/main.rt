@@ -45,7 +45,7 @@ fn words(rt: &HostRuntime) -> io::Result<Vec<String>> {
 
 /// Prints the key of a file, or why it has none; answers whether it has one.
 fn show_key<D: Digest>(rt: &HostRuntime, name: &str) -> io::Result<bool> {
-    let most = D::most_bytes();
+    let most = D::LONGEST;
     let bytes = match read_up_to(rt, name, u64::from(most) + 1) {
         Ok(bytes) => bytes,
         Err(e) => {

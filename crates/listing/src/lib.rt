@@ -36,7 +36,7 @@ pub fn key_line<D: Digest>(
     bytes: &[u8],
     name: &str,
 ) -> Result<Option<String>, AllocError>
-    ensures { IfOk result (λ line. option_map string_bytes line ≡ option_map (key_line name.now) (key_of D.Digest.most D.Digest.words bytes.now)) }
+    ensures { IfOk result (λ line. option_map string_bytes line ≡ option_map (key_line name.now) (key_of D.LONGEST D.words bytes.now)) }
 {
     match key_of::<D>(bytes) {
         None => Ok(None),
@@ -60,7 +60,7 @@ pub fn key_from_text(text: &[u8]) -> Option<Key>
 
 /// The lines of an action: its text in hexadecimal, and the key of that text under a digest.
 pub fn action_lines<D: Digest>(heap: Global, action: &Action) -> Result<String, AllocError>
-    ensures { IfOk result (λ t. option_map (action_lines (action_text (act_of action.now))) (key_of D.Digest.most D.Digest.words (action_text (act_of action.now))) ≡ Some (string_bytes t)) }
+    ensures { IfOk result (λ t. option_map (action_lines (action_text (act_of action.now))) (key_of D.LONGEST D.words (action_text (act_of action.now))) ≡ Some (string_bytes t)) }
 {
     let bytes = action.text();
     let text = hex_text(heap, bytes.as_slice())?;

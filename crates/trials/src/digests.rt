@@ -68,7 +68,7 @@ fn try_tally(rt: &HostRuntime, score: &mut Score) -> io::Result<()> {
 
 /// The longest input has a key, and one byte more has none.
 fn try_longest<D: Digest>(rt: &HostRuntime, score: &mut Score, name: &str) -> anyhow::Result<()> {
-    let most = D::most_bytes();
+    let most = D::LONGEST;
     let mut bytes = vec![in rt.alloc(); 255u8; most as usize]?;
     let longest = score.count(key_of::<D>(bytes.as_slice()).is_some());
     println!(rt; "{longest} {name} takes {most} bytes")?;

@@ -50,7 +50,7 @@ impl Action {
 
     /// The key of the action's text under a digest, which names the step in a trace cache.
     pub fn key<D: Digest>(&self) -> Key
-        ensures { Some result ≡ key_of D.Digest.most D.Digest.words (action_text (act_of self.now)) }
+        ensures { Some result ≡ key_of D.LONGEST D.words (action_text (act_of self.now)) }
     {
         let text = self.text();
         key_of::<D>(text.as_slice()).unwrap()

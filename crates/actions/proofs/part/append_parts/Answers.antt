@@ -15,8 +15,8 @@ pub loop-part-preserved : goal.loop-part-preserved
 loop-part-preserved g c =
     let t = g.P.Part in
     let text = few_items c.loop-part.text in
-    let kind = c.kind_number.ensures ∙ ap kind_number c.kind.ensures in
-    let put = record_appended longest_text c.kind_number.result t.kind (t.body_of (t.seen c.part-item.result)) text (few_items c.append_what_fits.new.self) _ c.append_what_fits.ensures kind c.append_body.ensures in
+    let kind = c.from.ensures ∙ ap kind_number c.kind.ensures in
+    let put = record_appended longest_text c.from.result t.kind (t.body_of (t.seen c.part-item.result)) text (few_items c.append_what_fits.new.self) _ c.append_what_fits.ensures kind c.append_body.ensures in
     append_more longest_text (λ x. record_bytes t.kind (t.body_of (t.seen x))) (few_items c.args.text.now) text _
     c.args.parts.now c.loop-part.part-index c.part-item.result (omega arith) c.part-item.is c.loop-part.invariant put
 

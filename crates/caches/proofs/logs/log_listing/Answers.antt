@@ -21,7 +21,7 @@ loop-entry-preserved g c =
     let rest = c.loop-entry.rest.now in
     let next = c.rest-rest.result.now in
     let e = entry_of c.in-Some.entry in (
-      entry_more g.D.Digest.most g.D.Digest.words bs rest next (string_bytes c.loop-entry.text) c.as_str.result.now (string_bytes c.push_str.new.self) e c.in-Some.ensures c.rest-rest.ensures
+      entry_more g.D.Digest.LONGEST g.D.Digest.words bs rest next (string_bytes c.loop-entry.text) c.as_str.result.now (string_bytes c.push_str.new.self) e c.in-Some.ensures c.rest-rest.ensures
           (c.as_str.ensures.value ∙ c.in_ok-line.ensures) (pushed c.as_str.result.now refl c.in_ok-push_str.was c.push_str.ensures.bytes) c.loop-entry.invariant.0,
       passed_rest bs rest next e c.in-Some.ensures c.rest-rest.ensures c.loop-entry.invariant.1,
     )
@@ -35,8 +35,8 @@ pub returns : goal.returns
 returns g c =
     let bs = c.args.bytes.now in
     let rest = c.loop-entry.rest.now in
-    let lines = entry_lines g.D.Digest.most g.D.Digest.words (log_entries bs) in
+    let lines = entry_lines g.D.Digest.LONGEST g.D.Digest.words (log_entries bs) in
     let e : log_rest bs ≡ rest = c.loop-entry.invariant.1 ∙ (entries_none rest (sym c.in_default.ensures)).1 in
-    let text = entry_last g.D.Digest.most g.D.Digest.words bs rest (string_bytes c.loop-entry.text) c.in_default.ensures c.loop-entry.invariant.0 in
+    let text = entry_last g.D.Digest.LONGEST g.D.Digest.words bs rest (string_bytes c.loop-entry.text) c.in_default.ensures c.loop-entry.invariant.0 in
     pushed c.as_str-2.result.now text c.in_ok-push_str-2.was c.push_str-2.ensures.bytes
     ∙ ap (λ xs. lines ++ xs) (c.as_str-2.ensures.value ∙ (c.in_ok-last.ensures ∙ ap (λ xs. last_line (length bs - length xs) xs) (sym e)))

@@ -6,7 +6,7 @@ use Rattle.caches.proofs.logs.log_listing.Given as goal
 -- what is written, and what is left to write, are the lines of all entries
 abbrev pub invariant-loop-entry : goal.invariant-loop-entry
 invariant-loop-entry g l =
-    (entry_lines g.D.Digest.most g.D.Digest.words (log_entries l.bytes) ≡ string_bytes l.text ++ entry_lines g.D.Digest.most g.D.Digest.words (log_entries l.rest))
+    (entry_lines g.D.Digest.LONGEST g.D.Digest.words (log_entries l.bytes) ≡ string_bytes l.text ++ entry_lines g.D.Digest.LONGEST g.D.Digest.words (log_entries l.rest))
     × (log_rest l.bytes ≡ log_rest l.rest)
 
 abbrev pub decreases-loop-entry : goal.decreases-loop-entry

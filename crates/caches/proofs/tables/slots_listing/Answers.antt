@@ -6,5 +6,5 @@ use Rattle.caches.proofs.tables.slots_listing.Goals as goal
 
 pub loop-i-preserved : goal.loop-i-preserved
 loop-i-preserved g c =
-    slot_more g.D.Digest.most g.D.Digest.words c.loop-i.i (bytes_of c.args.store.now) _ _ _ refl
+    slot_more g.D.Digest.LONGEST g.D.Digest.words c.loop-i.i (bytes_of c.args.store.now) _ _ _ refl
     (c.as_str.ensures.value ∙ c.in_ok-line.ensures) (pushed _ c.loop-i.invariant c.in_ok-push_str.was c.push_str.ensures.bytes)
