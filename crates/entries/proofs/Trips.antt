@@ -6,10 +6,10 @@ use Rattle.records.specs.declared.kind.Kind.TheVariants.{LogHead}
 use Rattle.records.specs.Records.{Split, record_size, and_then}
 use Rattle.records.proofs.Trips.{then_some}
 use Rattle.lists.specs.Each.{all_zero}
-use Rattle.entries.specs.Blocks.{block_count, entry_size, padded, exactly, blocks, whole_blocks, joined_bodies, bodies}
+use Rattle.entries.specs.Blocks.{block_count, entry_size, padded, blocks, whole_blocks, joined_bodies, bodies}
 use Rattle.entries.specs.Heads.{Head, head_bytes, read_head}
 use Rattle.entries.specs.Entries.{Logged, entry_bytes, unpadded, with_value, read_entry}
-use Rattle.entries.proofs.Runs.{length-padded, length-blocks, length-bodies, exactly_enough, whole_long, split_blocks_back, split_blocks_only, take-padded, drop-padded, padded_only}
+use Rattle.entries.proofs.Runs.{length-padded, length-blocks, length-bodies, whole_long, split_blocks_back, split_blocks_only, take-padded, drop-padded, padded_only}
 use Rattle.entries.proofs.Tops.{length-head_body, head_back, head_only, head_span}
 
 pub sizes : (k : Key) (v : List ℕ) → length (entry_bytes k v) ≡ entry_size (length v)
@@ -82,17 +82,3 @@ span bs e w =
     let g : drop (block_count n * 33) x.0.rest ≡ drop (entry_size (length e.part.value)) bs =
     ap (drop (block_count n * 33)) top.2 ∙ (drop-drop (block_count n * 33) (record_size LogHead) bs ∙ ap (λ j. drop j bs) m) in
     (omega (arith, top.0), omega (arith, top.1), d ∙ g)
-
--- an entry, once its head is read, its blocks are whole and its padding is zero
-pub entry_made : (bs behind rest : List ℕ) (k : Key) (n m : ℕ) → Some (record { part = record { key = k; size = n }; rest = behind }) ≡ read_head bs → m ≡ block_count n → true ≡ whole_blocks m behind → true ≡ all_zero (drop n (joined_bodies (block_count n) behind)) → rest ≡ take (length behind - m * 33) (drop (m * 33) behind) → Some (record { part = record { key = k; value = exactly n (joined_bodies (block_count n) behind) }; rest = rest }) ≡ read_entry bs
-entry_made bs behind rest k n m h em w z r =
-    let b = block_count n in
-    let js = joined_bodies b behind in
-    let t : whole_blocks b behind ≡ true = sym (w ∙ ap (λ j. whole_blocks j behind) em) in
-    let y : all_zero (drop n js) ≡ true = sym z in
-    let l = length-bodies b behind (whole_long b behind t) in
-    let v = exactly_enough n js (omega arith) in
-    let d : rest ≡ drop (b * 33) behind = r ∙ (take_rest behind (m * 33) ∙ ap (λ j. drop (j * 33) behind) em) in
-    let made : List ℕ → List ℕ → Split Logged = λ xs ys. record { part = record { key = k; value = xs }; rest = ys } in
-    let e : made (exactly n js) rest ≡ made (take n js) (drop (b * 33) behind) = ap (λ xs. made xs rest) v ∙ ap (made (take n js)) d in
-    ap Some e ∙ sym (ap (λ o. and_then o with_value) (sym h) ∙ rw (t, y) refl)
