@@ -11,10 +11,7 @@ use std::alloc::{AllocError, Global};
 fn is_own_key<D: Digest>(key: &Key, value: &[u8]) -> bool
     ensures { result ≡ is_own_key D.Digest.most D.Digest.words key.now value.now }
 {
-    match key_of::<D>(value) {
-        Some(own) => own == *key,
-        None => false,
-    }
+    key_of::<D>(value).is_some_and(|own| own == *key)
 }
 
 /// Whether the key of a pair is that of its value, in words.

@@ -1,7 +1,7 @@
 use Rattle.std.proofs.Common.{◌≡◌, ℕ, ◌+◌, ◌*◌, ◌<◌, ◌≤◌, min, true, eqb, leb, List, ◌++◌, length, take, drop, sym, refl, ap, ◌∙◌, arith}
 use lib.Seq.{paste}
-use Rattle.std.proofs.lemmas.List.Edits.{length-paste, paste-paste, paste_all}
-use Rattle.std.proofs.lemmas.List.{length-append, length-drop, take_at, drop_at, take_min, drop_min, drop-drop}
+use Rattle.std.proofs.lemmas.List.Edits.{paste-paste, paste_all}
+use Rattle.std.proofs.lemmas.List.{take_at, drop_at, take_min, drop_min, drop-drop}
 use Rattle.std.proofs.lemmas.Bool.{and_from, eq-eqb, le-leb}
 use Rattle.keys.specs.declared.key.Key.{Key}
 use Rattle.lists.specs.Each.{zeros_to}

@@ -1,15 +1,15 @@
-use Rattle.std.proofs.Common.{◌≡◌, ℕ, ◌+◌, ◌-◌, ◌*◌, ◌≤◌, Bool, true, false, cond, List, ◌++◌, length, take, drop, Some, None, sym, refl, ap, ◌∙◌, arith}
+use Rattle.std.proofs.Common.{◌≡◌, ℕ, ◌+◌, ◌*◌, ◌≤◌, Bool, true, false, cond, List, ◌++◌, length, take, drop, Some, None, sym, refl, ap, ◌∙◌, arith}
 use Rattle.std.specs.Int.Digits.{AllBelowBase}
-use Rattle.std.proofs.lemmas.List.{append_assoc, length-append, length-take-le, drop_at, drop-drop, take_rest}
+use Rattle.std.proofs.lemmas.List.{append_assoc, length-append, length-take-le, drop_at, drop-drop}
 use Rattle.keys.specs.declared.key.Key.{Key}
 use Rattle.records.specs.declared.kind.Kind.TheVariants.{LogHead}
 use Rattle.records.specs.Records.{Split, record_size, and_then}
 use Rattle.records.proofs.Trips.{then_some}
 use Rattle.lists.specs.Each.{all_zero}
-use Rattle.entries.specs.Blocks.{block_count, entry_size, padded, blocks, whole_blocks, joined_bodies, bodies}
+use Rattle.entries.specs.Blocks.{block_count, entry_size, padded, blocks, bodies}
 use Rattle.entries.specs.Heads.{Head, head_bytes, read_head}
 use Rattle.entries.specs.Entries.{Logged, entry_bytes, unpadded, with_value, read_entry}
-use Rattle.entries.proofs.Runs.{length-padded, length-blocks, length-bodies, whole_long, split_blocks_back, split_blocks_only, take-padded, drop-padded, padded_only}
+use Rattle.entries.proofs.Runs.{length-padded, length-blocks, split_blocks_back, split_blocks_only, take-padded, drop-padded, padded_only}
 use Rattle.entries.proofs.Tops.{length-head_body, head_back, head_only, head_span}
 
 pub sizes : (k : Key) (v : List ℕ) → length (entry_bytes k v) ≡ entry_size (length v)

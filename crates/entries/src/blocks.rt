@@ -8,9 +8,8 @@ ghost use Rattle.keys.specs.Digests.{value_room};
 ghost use Rattle.entries.specs.Blocks.{block_count, entry_size, split_blocks};
 
 use crate::heads::HEAD_RECORD;
-use records::{Kind, split_record};
-
 pub use keys::VALUE_ROOM;
+use records::{Kind, split_record};
 
 /// The bytes of a value in one block.
 pub(crate) const BLOCK: usize = 32;

@@ -1,7 +1,8 @@
 //! Reading entries, and what an entry holds.
 
-ghost use Rattle.std.specs.Prelude.{◌≡◌, length, drop, Decides, nat_le, is_ok, slice_index};
+ghost use Rattle.std.specs.Prelude.{◌≡◌, ◌≤◌, length, drop, Decides, nat_le, is_ok, slice_index};
 ghost use Rattle.std.specs.Option.{option_map};
+ghost use Rattle.keys.specs.Digests.{value_room};
 ghost use Rattle.lists.specs.Each.{all_zero};
 ghost use Rattle.entries.specs.Blocks.{filled};
 ghost use Rattle.entries.specs.Entries.{read_entry, bodies_of, entry_of, value_of};
@@ -32,7 +33,8 @@ impl<'a> Entry<'a> {
 
     /// How many bytes the value has.
     pub fn value_len(&self) -> usize
-        ensures { result ≡ length (entry_of self.now).part.value }
+        ensures value { result ≡ length (entry_of self.now).part.value }
+        ensures short { result ≤ value_room }
     {
         self.head.size
     }
@@ -81,7 +83,6 @@ impl<'a> Entry<'a> {
     pub fn has_value(&self, value: &[u8]) -> bool
         ensures { Decides result ((entry_of self.now).part.value ≡ value.now) }
     {
-        value.len() == self.value_len()
-            && value.iter().enumerate().all(|(i, b)| *b == self.byte(i))
+        value.len() == self.value_len() && value.iter().enumerate().all(|(i, b)| *b == self.byte(i))
     }
 }

@@ -1,4 +1,4 @@
-use Rattle.std.proofs.Common.{◌≡◌, ◌+◌, ◌*◌, ◌<◌, true, false, cond, leb, [], length, drop, Some, None, sym, refl, ap, ◌∙◌, arith}
+use Rattle.std.proofs.Common.{◌≡◌, ◌+◌, ◌*◌, true, false, cond, leb, [], length, drop, Some, sym, refl, ap, ◌∙◌, arith}
 use Rattle.std.proofs.lemmas.List.{length-drop, length_push}
 use Rattle.std.proofs.lemmas.List.Edits.{paste_none}
 use Rattle.std.proofs.lemmas.Option.{cond_some}
@@ -66,7 +66,7 @@ loop-piece-preserved c =
     let f = cond_some (record_fits LogBlock body end xs) (end + 33) c.in_ok-end-2.end (sym c.in_ok-end-2.ensures.answer) in
     let out = c.in_ok-end-2.ensures.after ∙ ap (λ b. cond b (paste xs end (record_bytes LogBlock body) 33) xs) f.0 in
     let w =
-        put_more c.put_record.new.into xs c.put_record-in-loop-piece.new.into v body i end (omega arith) (omega arith) c.loop-piece.invariant.written (c.block_body.ensures ∙ ap (zeros_to 32) p.0) c.loop-piece.invariant.place out (omega arith) in
+    put_more c.put_record.new.into xs c.put_record-in-loop-piece.new.into v body i end (omega arith) (omega arith) c.loop-piece.invariant.written (c.block_body.ensures ∙ ap (zeros_to 32) p.0) c.loop-piece.invariant.place out (omega arith) in
     let n = length_push c.loop-piece.yielded c.in-Some.piece in
     record {
       size = c.in-Some.ensures.steps.0 ∙ c.loop-piece.invariant.size;

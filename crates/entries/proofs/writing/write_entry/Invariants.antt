@@ -14,5 +14,5 @@ invariant-loop-piece l =
       left : chunks_rest l.piece-iterator ≡ drop (length l.yielded * 32) l.value;
       within : length l.yielded ≤ block_count (length l.value);
       place : l.end ≡ record_size LogHead + length l.yielded * 33;
-      written : l.into ≡ paste l.initial.into (record_size LogHead) (blocks (length l.yielded) (padded l.value)) (length l.yielded * 33)
+      written : l.into ≡ paste l.initial.into (record_size LogHead) (blocks (length l.yielded) (padded l.value)) (length l.yielded * 33);
     }

@@ -1,7 +1,5 @@
-use Rattle.entries.specs.declared.entry.Entry.{Entry}
 use Rattle.entries.specs.Blocks.{split_blocks}
 use Rattle.entries.specs.Entries.{entry_of}
-use Rattle.records.specs.Records.{split_of}
 use Rattle.std.proofs.Common.{◌*◌, option_map, ap, ◌∙◌}
 use Rattle.entries.proofs.Runs.{split_some}
 use Rattle.entries.proofs.Values.{entry_made}
