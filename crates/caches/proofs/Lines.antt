@@ -1,12 +1,10 @@
-use Rattle.std.proofs.Common.{◌≡◌, ℕ, ◌+◌, ◌-◌, ◌≤◌, Bool, true, false, cond, leb, List, [], ◌++◌, length, take, replicate, Some, None, Option, sym, refl, ap, ◌∙◌, add-one, arith}
+use Rattle.std.proofs.Common.{◌≡◌, ℕ, ◌+◌, ◌-◌, ◌≤◌, Bool, false, List, [], ◌++◌, length, Some, None, Option, sym, ap, ◌∙◌, add-one, arith}
 use Rattle.std.specs.Option.{option_map}
-use Rattle.std.proofs.lemmas.List.{append_assoc, append-nil, length-replicate, take_at}
+use Rattle.std.proofs.lemmas.List.{append_assoc, append-nil}
 use Rattle.std.proofs.lemmas.Option.{none-some, same_Some}
-use Rattle.keys.specs.Digests.{value_room}
 use Rattle.keys.specs.declared.key.Key.{Key}
 use Rattle.records.specs.Records.{Split}
 use Rattle.slots.specs.Table.{Pair, pair_key, pair_value, pair_at, is_damaged_at}
-use Rattle.entries.specs.Blocks.{filled}
 use Rattle.entries.specs.Entries.{Logged, read_entry}
 use Rattle.log_store.specs.Contents.{log_entries, log_rest}
 use Rattle.log_store.specs.Appends.{entries_some, entries_none, rest_within}

@@ -1,5 +1,4 @@
-use Rattle.std.proofs.Common.{◌≡◌, ℕ, zero, suc, ◌+◌, ◌-◌, ◌*◌, ◌<◌, ◌≤◌, Bool, true, false, cond, ◌&&◌, eqb, leb, List, [], ◌∷◌, ◌++◌, length, get_or, take, drop, set, replicate, Some, None, sym, refl, ap, ◌∙◌, inl, inr, arith}
-use Rattle.std.proofs.lemmas.List.Edits.{fill_by_more}
+use Rattle.std.proofs.Common.{◌≡◌, ℕ, zero, suc, ◌+◌, ◌-◌, ◌*◌, ◌<◌, ◌≤◌, Bool, true, false, cond, ◌&&◌, eqb, leb, List, [], ◌∷◌, ◌++◌, length, get_or, take, drop, replicate, Some, None, sym, refl, ap, ◌∙◌, inl, inr, arith}
 use Rattle.std.proofs.lemmas.List.{append_assoc, append-nil, length-append, length-take, length-take-le, length-drop, length-replicate, take_at, drop_at, take-append-le, take-append-drop, drop_all, drop-drop, drop-take, take-take, drop-append-le, nil_from_length, take_all, ext_get_or, get_or-take, get_or-drop, get_or_past, get_or_append_left, get_or-append_right, get_or-replicate}
 use Rattle.std.proofs.lemmas.Bool.{and_from, and_parts, eqb-true, leb-true, cases_lt}
 use Rattle.std.proofs.lemmas.Option.{none-some, cond_some}
@@ -32,11 +31,6 @@ length-padded v =
     let r = length-replicate {A = ℕ} (n - length v) 0 in
     omega arith
 
--- no blocks have no bodies
-bodies_nil : (n : ℕ) → joined_bodies n [] ≡ []
-bodies_nil zero = refl
-bodies_nil (suc n) = bodies_nil n
-
 pub length-bodies : (n : ℕ) (bs : List ℕ) → n * 33 ≤ length bs → length (joined_bodies n bs) ≡ n * 32
 length-bodies zero bs h = refl
 length-bodies (suc n) bs h =
@@ -47,36 +41,25 @@ length-bodies (suc n) bs h =
     let a = length-append (take 32 (drop 1 bs)) (joined_bodies n (drop 33 bs)) in
     omega arith
 
--- a byte of the first body
-first_body : (bs : List ℕ) (i : ℕ) → i < 32 → get_or (take 32 (drop 1 bs)) i 0 ≡ get_or bs (place i) 0
-first_body bs i h =
-    let p : 1 + i ≡ place i = omega arith in
-    get_or-take 32 (drop 1 bs) i 0 h ∙ (get_or-drop 1 bs i 0 ∙ ap (λ k. get_or bs k 0) p)
-
 -- the byte i of the joined bodies stands at its place in the records
-pub get_or-bodies : (n : ℕ) (bs : List ℕ) (i : ℕ) → i < n * 32 → get_or (joined_bodies n bs) i 0 ≡ get_or bs (place i) 0
-get_or-bodies zero bs i h = absurd (omega arith)
-get_or-bodies (suc n) bs i h =
+pub get_or-bodies : (n : ℕ) (bs : List ℕ) (i : ℕ) → n * 33 ≤ length bs → i < n * 32 → get_or (joined_bodies n bs) i 0 ≡ get_or bs (place i) 0
+get_or-bodies zero bs i long h = absurd (omega arith)
+get_or-bodies (suc n) bs i long h =
     let first = take 32 (drop 1 bs) in
     let more = joined_bodies n (drop 33 bs) in
     let d = length-drop 1 bs in
-    let lt = length-take 32 (drop 1 bs) in
-    elim (cases_lt (length bs) 33) [
-      | inl short ↦ (
-          let e : drop 33 bs ≡ [] = drop_all 33 bs (omega arith) in
-          let m : first ++ more ≡ first = ap (λ xs. first ++ joined_bodies n xs) e ∙ (ap (λ xs. first ++ xs) (bodies_nil n) ∙ append-nil first) in
-          ap (λ xs. get_or xs i 0) m ∙ elim (cases_lt i 32) [
-            | inl low ↦ first_body bs i low
-            | inr high ↦ get_or_past first i 0 (omega arith) ∙ sym (get_or_past bs (place i) 0 (omega arith))
-          ]
+    let e = length-drop 33 bs in
+    let t : length first ≡ 32 = length-take-le 32 (drop 1 bs) (omega arith) in
+    elim (cases_lt i 32) [
+      | inl low ↦ (
+          let p : 1 + i ≡ place i = omega arith in
+          get_or_append_left first more 0 i (omega arith) ∙ (get_or-take 32 (drop 1 bs) i 0 low ∙ (get_or-drop 1 bs i 0 ∙ ap (λ k. get_or bs k 0) p))
           )
-      | inr long ↦ elim (cases_lt i 32) [
-        | inl low ↦ get_or_append_left first more 0 i (omega arith) ∙ first_body bs i low
-        | inr high ↦ (
-            let p : 33 + place (i - 32) ≡ place i = omega arith in
-            get_or-append_right first more 32 i 0 (omega arith) high ∙ (get_or-bodies n (drop 33 bs) (i - 32) (omega arith) ∙ (get_or-drop 33 bs (place (i - 32)) 0 ∙ ap (λ k. get_or bs k 0) p))
-            )
-      ]
+      | inr high ↦ (
+          let p : 33 + place (i - 32) ≡ place i = omega arith in
+          get_or-append_right first more 32 i 0 t high
+          ∙ (get_or-bodies n (drop 33 bs) (i - 32) (omega arith) (omega arith) ∙ (get_or-drop 33 bs (place (i - 32)) 0 ∙ ap (λ k. get_or bs k 0) p))
+          )
     ]
 
 -- one block record more
@@ -213,10 +196,6 @@ whole_some n m bs s e h =
     let r : drop 33 bs ≡ s.rest = ap (λ (x : Split (List ℕ)). x.rest) w.1 in
     (ap (λ k. whole_blocks k bs) e ∙ (ap (λ b. b && whole_blocks n (drop 33 bs)) w.0 ∙ ap (whole_blocks n) r), sym r)
 
--- one byte more of a value is filled in
-pub fill_step : (v xs : List ℕ) (i y : ℕ) → i < length xs → y ≡ get_or v i 0 → ((k : ℕ) → k < i → get_or xs k 0 ≡ get_or v k 0) → (k : ℕ) → k < i + 1 → get_or (set xs i y) k 0 ≡ get_or v k 0
-fill_step v xs i y lt e inv k h = ap (λ z. get_or (set xs i z) k 0) e ∙ fill_by_more (λ j. get_or v j 0) xs i 0 lt inv k h
-
 -- all bytes are filled in
 pub fill_done : (v xs : List ℕ) → length v ≤ length xs → ((k : ℕ) → k < length xs → get_or xs k 0 ≡ get_or v k 0) → xs ≡ zeros_to (length xs) v
 fill_done v xs h inv =
@@ -293,6 +272,3 @@ split_some n bs s h =
     let r : drop (n * 33) bs ≡ s.rest = ap (λ (x : Split (List ℕ)). x.rest) w.1 in
     let j : joined_bodies n bs ≡ joined_bodies n s.part = sym (bodies_front n bs) ∙ ap (joined_bodies n) p in
     (rw (w.0, j, r) refl, ap length (sym p) ∙ length-take-le (n * 33) bs (whole_long n bs w.0))
-
-pub split_none : (n : ℕ) (bs : List ℕ) → None ≡ split_blocks n bs → bodies n bs ≡ None
-split_none n bs h = rw (cond_none (whole_blocks n bs) _ (sym h)) refl

@@ -1,8 +1,7 @@
-use Rattle.std.proofs.Common.{◌≡◌, ℕ, ◌*◌, ◌<◌, ◌≤◌, Bool, true, false, cond, List, length, get_or, drop, Some, None, sym, refl, ap, ◌∙◌, arith}
+use Rattle.std.proofs.Common.{◌≡◌, ℕ, ◌<◌, Bool, true, false, cond, List, length, get_or, drop, Some, None, sym, refl, ap, ◌∙◌, arith}
 use Rattle.std.specs.Bool.{then_some}
 use Rattle.std.specs.Option.{option_map}
 use Rattle.std.proofs.lemmas.List.{length-take-le, get_or-take}
-use Rattle.keys.specs.Digests.{value_room}
 use Rattle.lists.specs.Each.{all_zero}
 use Rattle.records.specs.Records.{and_then}
 use Rattle.entries.specs.Blocks.{block_count, split_blocks, place}
@@ -11,22 +10,16 @@ use Rattle.entries.specs.Entries.{bodies_of, value_of, entry_of, unpadded, with_
 use Rattle.entries.specs.declared.entry.Entry.{Entry}
 use Rattle.entries.proofs.Runs.{length-bodies, get_or-bodies, split_some}
 
--- the bodies of an entry fill its blocks
-pub length-bodies_of : (e : Entry) → length (bodies_of e) ≡ block_count e.head.size * 32
-length-bodies_of e = length-bodies (block_count e.head.size) e.blocks.now (omega arith)
-
 -- the value of an entry has the length that its head says
 pub length-value : (e : Entry) → length (value_of e) ≡ e.head.size
-length-value e = let l = length-bodies_of e in length-take-le e.head.size (bodies_of e) (omega arith)
-
--- the value of an entry is within its room
-pub value_short : (e : Entry) → length (value_of e) ≤ value_room
-value_short e = let l = length-value e in omega arith
+length-value e =
+    let l = length-bodies (block_count e.head.size) e.blocks.now (omega arith) in
+    length-take-le e.head.size (bodies_of e) (omega arith)
 
 -- a byte of a value stands at its place in the blocks
 pub byte_at : (e : Entry) (i : ℕ) → i < e.head.size → get_or e.blocks.now (place i) 0 ≡ get_or (value_of e) i 0
 byte_at e i h =
-    sym (get_or-take e.head.size (bodies_of e) i 0 h ∙ get_or-bodies (block_count e.head.size) e.blocks.now i (omega arith))
+    sym (get_or-take e.head.size (bodies_of e) i 0 h ∙ get_or-bodies (block_count e.head.size) e.blocks.now i (omega arith) (omega arith))
 
 picked : (t : Bool) (e : Entry) → option_map entry_of (then_some t e) ≡ cond t (Some (entry_of e)) None
 picked true e = refl

@@ -1,10 +1,7 @@
-use Rattle.std.proofs.Common.{◌≡◌, ◌-◌, ◌++◌, length, string_bytes, None, sym, refl, ap, ◌∙◌, arith}
+use Rattle.std.proofs.Common.{string_bytes, sym, refl, ap, ◌∙◌}
 use Rattle.std.proofs.lemmas.Slice.{pushed}
 use Rattle.entries.specs.Entries.{entry_of, read_entry}
-use Rattle.log_store.specs.Contents.{log_entries, log_rest}
-use Rattle.log_store.specs.Appends.{entries_none, rest_within}
 use Rattle.log_store.proofs.Steps.{passed_rest}
-use Rattle.caches.specs.Listings.{last_line, entry_lines}
 use Rattle.caches.proofs.Lines.{at_rest, entry_more, listed}
 use Rattle.caches.proofs.logs.log_listing.Goals as goal
 

@@ -1,4 +1,4 @@
-use Rattle.std.proofs.Common.{◌≡◌, ◌++◌, length, string_bytes}
+use Rattle.std.proofs.Common.{◌≡◌, ◌++◌, string_bytes}
 use Rattle.entries.specs.Scans.{left_of}
 use Rattle.log_store.specs.Contents.{log_entries, log_rest}
 use Rattle.caches.specs.Listings.{entry_lines}
@@ -10,5 +10,5 @@ invariant-loop-entry g l =
     record {
       at : left_of l.entry-iterator ≡ l.rest;
       lines : entry_lines g.D.Digest.most g.D.Digest.words (log_entries l.bytes) ≡ string_bytes l.text ++ entry_lines g.D.Digest.most g.D.Digest.words (log_entries l.rest);
-      rest : log_rest l.bytes ≡ log_rest l.rest
+      rest : log_rest l.bytes ≡ log_rest l.rest;
     }

@@ -13,7 +13,7 @@ returns-in_ok-pair-in-Some-Some g c =
     let bs = bytes_of c.args.store.now in
     let i = c.args.i in
     let line = slot_some g.D.Digest.most g.D.Digest.words i (is_damaged_at i bs) (pair_at i bs) c.in-Some-Some.key c.in-Some-Some.value.now
-        (sym c.in-Some-Some.is-0 ∙ c.key_at.ensures) (sym (ap (option_map (λ x. x.now)) c.in-Some-Some.is-1) ∙ c.value_at.ensures) in
+    (sym c.in-Some-Some.is-0 ∙ c.key_at.ensures) (sym (ap (option_map (λ x. x.now)) c.in-Some-Some.is-1) ∙ c.value_at.ensures) in
     IfOk-weaker c.about_slot.result _ _ (λ t h. h ∙ (ap (about_slot i) (c.as_str.ensures.value ∙ c.in_ok-pair-in-Some-Some.ensures) ∙ line)) c.about_slot.ensures
 
 pub returns-in_default-2 : goal.returns-in_default-2

@@ -1,4 +1,4 @@
-use Rattle.std.proofs.Common.{rules, length, sym, ap, arith}
+use Rattle.std.proofs.Common.{length, sym, ap, arith}
 use Rattle.entries.specs.Entries.{entry_of}
 use Rattle.entries.proofs.Trips.{span}
 use Rattle.entries.proofs.scan.EntriesIterator.next.Goals as goal
