@@ -1,14 +1,14 @@
-use Rattle.std.proofs.Common.{◌≡◌, ℕ, ◌+◌, ◌-◌, ◌≤◌, Bool, false, List, [], ◌++◌, length, Some, None, Option, sym, ap, ◌∙◌, add-one, arith}
+use Rattle.std.proofs.Common.{◌≡◌, ℕ, ◌-◌, ◌≤◌, Bool, false, List, [], ◌++◌, length, Some, None, Option, sym, ap, ◌∙◌, arith}
 use Rattle.std.specs.Option.{option_map}
 use Rattle.std.proofs.lemmas.List.{append_assoc, append-nil}
 use Rattle.std.proofs.lemmas.Option.{none-some, same_Some}
 use Rattle.keys.specs.declared.key.Key.{Key}
 use Rattle.records.specs.Records.{Split}
-use Rattle.slots.specs.Table.{Pair, pair_key, pair_value, pair_at, is_damaged_at}
+use Rattle.slots.specs.Table.{Pair, pair_key, pair_value}
 use Rattle.entries.specs.Entries.{Logged, read_entry}
 use Rattle.log_store.specs.Contents.{log_entries, log_rest}
 use Rattle.log_store.specs.Appends.{entries_some, entries_none, rest_within}
-use Rattle.caches.specs.Listings.{about_slot, pair_text, slot_line, slot_lines, entry_line, entry_lines, last_line, log_listing}
+use Rattle.caches.specs.Listings.{about_slot, pair_text, slot_line, entry_line, entry_lines, last_line, log_listing}
 
 -- where no entry is left, what is left is the rest of the log
 pub at_rest : (bs rest : List ℕ) → None ≡ read_entry rest → log_rest bs ≡ log_rest rest → (log_rest bs ≡ rest) × (length rest ≤ length bs)
@@ -28,11 +28,6 @@ module _ (most : ℕ) (words : List ℕ → List ℕ) where
   pub slot_none : {X : Type 0} (read : Pair → X) (i : ℕ) (d : Bool) (o : Option Pair) → None ≡ option_map read o → false ≡ d → [] ≡ slot_line most words i d o
   slot_none read i d None e ed = ap (λ t. slot_line most words i t None) ed
   slot_none read i d (Some p) e ed = absurd (none-some (read p) e)
-
-  -- one slot more
-  pub slot_more : (i : ℕ) (bs text line out : List ℕ) → text ≡ slot_lines most words i bs → line ≡ slot_line most words i (is_damaged_at i bs) (pair_at i bs) → out ≡ text ++ line → out ≡ slot_lines most words (i + 1) bs
-  slot_more i bs text line out et el eo =
-      eo ∙ (ap (λ xs. xs ++ line) et ∙ (ap (λ xs. slot_lines most words i bs ++ xs) el ∙ sym (ap (λ n. slot_lines most words n bs) (add-one i))))
 
   -- one entry more
   pub entry_more : (bs rest next text line out : List ℕ) (e : Split Logged) → Some e ≡ read_entry rest → next ≡ e.rest → line ≡ entry_line most words e.part → out ≡ text ++ line → entry_lines most words (log_entries bs) ≡ text ++ entry_lines most words (log_entries rest) → entry_lines most words (log_entries bs) ≡ out ++ entry_lines most words (log_entries next)
