@@ -1,8 +1,10 @@
-use Rattle.std.proofs.Common.{◌≡◌, ℕ, ◌+◌, ◌*◌, ◌<◌, ◌≤◌, min, true, eqb, leb, List, ◌++◌, length, take, drop, sym, refl, ap, ◌∙◌, arith}
+use Rattle.std.proofs.Common.{◌≡◌, ℕ, ◌+◌, ◌*◌, ◌<◌, ◌≤◌, min, true, cond, eqb, leb, List, ◌++◌, length, take, drop, Some, None, sym, refl, ap, ◌∙◌, arith}
 use lib.Seq.{paste}
 use Rattle.std.proofs.lemmas.List.Edits.{paste-paste, paste_all}
 use Rattle.std.proofs.lemmas.List.{take_at, drop_at, take_min, drop_min, drop-drop}
 use Rattle.std.proofs.lemmas.Bool.{and_from, eq-eqb, le-leb}
+use Rattle.std.proofs.lemmas.Option.{cond_some}
+use Rattle.records.specs.declared.kind.Kind.{Kind}
 use Rattle.keys.specs.declared.key.Key.{Key}
 use Rattle.lists.specs.Each.{zeros_to}
 use Rattle.records.specs.declared.kind.Kind.TheVariants.{LogHead, LogBlock}
@@ -13,6 +15,16 @@ use Rattle.entries.specs.Entries.{entry_bytes}
 use Rattle.entries.proofs.Runs.{length-padded, length-blocks, blocks_more, piece}
 use Rattle.entries.proofs.Tops.{length-head_body}
 use Rattle.entries.proofs.Trips.{sizes}
+
+-- a value that has a size is not too long
+pub size_some : (n size : ℕ) → Some size ≡ cond (leb n 2048) (Some (entry_size n)) None → (leb n 2048 ≡ true) × (entry_size n ≡ size)
+size_some n size h = cond_some (leb n 2048) (entry_size n) size (sym h)
+
+-- where a record is put, the next goes behind it
+pub put_some : (kind : Kind) (body xs out : List ℕ) (at end : ℕ) → Some end ≡ cond (record_fits kind body at xs) (Some (at + record_size kind)) None → out ≡ cond (record_fits kind body at xs) (paste xs at (record_bytes kind body) (record_size kind)) xs → (end ≡ at + record_size kind) × (out ≡ paste xs at (record_bytes kind body) (record_size kind))
+put_some kind body xs out at end h e =
+    let w = cond_some (record_fits kind body at xs) (at + record_size kind) end (sym h) in
+    (sym w.1, e ∙ ap (λ b. cond b (paste xs at (record_bytes kind body) (record_size kind)) xs) w.0)
 
 -- the next piece of a value, and what is left behind it
 pub next_piece : (v xs piece rest : List ℕ) (i n : ℕ) → n ≡ 32 → xs ≡ drop (i * 32) v → xs ≡ piece ++ rest → length piece ≡ min n (length xs) → (piece ≡ take 32 (drop (i * 32) v)) × (rest ≡ drop ((i + 1) * 32) v)

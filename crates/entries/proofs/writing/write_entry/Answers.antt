@@ -1,25 +1,24 @@
-use Rattle.std.proofs.Common.{◌≡◌, ◌+◌, ◌*◌, true, false, cond, leb, [], length, drop, Some, sym, refl, ap, ◌∙◌, arith}
+use Rattle.std.proofs.Common.{◌≡◌, ◌+◌, ◌*◌, true, false, leb, [], length, drop, Some, sym, refl, ap, ◌∙◌, arith}
 use Rattle.std.proofs.lemmas.List.{length-drop, length_push}
 use Rattle.std.proofs.lemmas.List.Edits.{paste_none}
-use Rattle.std.proofs.lemmas.Option.{cond_some}
 use Rattle.std.proofs.lemmas.Bool.{false≢true, le-leb, lt-leb}
 use Rattle.std.specs.Slice.Iter.{chunks_rest, chunks_size}
 use lib.Seq.{paste}
 use Rattle.lists.specs.Each.{zeros_to}
 use Rattle.records.specs.declared.kind.Kind.TheVariants.{LogHead, LogBlock}
 use Rattle.records.specs.Records.{record_bytes, record_fits}
-use Rattle.entries.specs.Blocks.{block_count, entry_size, padded, blocks}
+use Rattle.entries.specs.Blocks.{block_count, padded, blocks}
 use Rattle.entries.proofs.Runs.{cond_none}
 use Rattle.entries.specs.Entries.{entry_bytes}
 use Rattle.entries.proofs.Trips.{sizes}
-use Rattle.entries.proofs.Puts.{next_piece, block_fits, put_more, written}
+use Rattle.entries.proofs.Puts.{size_some, put_some, next_piece, block_fits, put_more, written}
 use Rattle.entries.proofs.writing.write_entry.Goals as goal
 
 pub returns-then-into-size : goal.returns-then-into-size
 returns-then-into-size c =
     let k = c.args.key.now in
     let v = c.args.value.now in
-    let s = cond_some (leb (length v) 2048) (entry_size (length v)) c.in_ok-size.size (sym c.in_ok-size.ensures) in
+    let s = size_some (length v) c.in_ok-size.size c.in_ok-size.ensures in
     let l = sizes k v in
     let f : leb (0 + length (entry_bytes k v)) (length c.args.into.now) ≡ false = lt-leb _ _ (omega arith) in
     rw (s.0, f) (record { answer = refl; after = refl })
@@ -27,12 +26,12 @@ returns-then-into-size c =
 pub loop-piece-init : goal.loop-piece-init
 loop-piece-init c =
     let d = c.put_record.new.into in
-    let head = c.in_ok-end.ensures.answer in
+    let t = put_some LogHead c.head_body.result c.args.into.now d 0 c.in_ok-end.end c.in_ok-end.ensures.answer c.in_ok-end.ensures.after in
     record {
       size = ap chunks_size c.into_iter-piece-iterator.ensures.into_iter_gives ∙ c.chunks-piece-items.ensures.size;
       left = ap chunks_rest c.into_iter-piece-iterator.ensures.into_iter_gives ∙ c.chunks-piece-items.ensures.rest;
       within = omega arith;
-      place = sym (cond_some (record_fits LogHead c.head_body.result 0 c.args.into.now) 41 c.in_ok-end.end (sym head)).1;
+      place = t.0;
       written = paste_none d 41 [];
     }
 
@@ -43,7 +42,7 @@ returns-in_err-end-2 c =
     let body = c.block_body.result in
     let end = c.loop-piece.end in
     let i = length c.loop-piece.yielded in
-    let s = cond_some (leb (length v) 2048) (entry_size (length v)) c.in_ok-size.size (sym c.in_ok-size.ensures) in
+    let s = size_some (length v) c.in_ok-size.size c.in_ok-size.ensures in
     let r = ap length c.loop-piece.invariant.left in
     let l = length-drop (i * 32) v in
     let some = c.in-Some.ensures.steps.1.2 in
@@ -57,16 +56,17 @@ loop-piece-preserved c =
     let body = c.block_body.result in
     let end = c.loop-piece.end in
     let i = length c.loop-piece.yielded in
-    let s = cond_some (leb (length v) 2048) (entry_size (length v)) c.in_ok-size.size (sym c.in_ok-size.ensures) in
+    let s = size_some (length v) c.in_ok-size.size c.in_ok-size.ensures in
     let steps = c.in-Some.ensures.steps.1 in
     let some = steps.2 in
     let r = ap length c.loop-piece.invariant.left in
     let l = length-drop (i * 32) v in
     let p = next_piece v (chunks_rest c.loop-piece.piece-iterator) c.in-Some.piece.now (chunks_rest c.next.new.self) i _ c.loop-piece.invariant.size c.loop-piece.invariant.left steps.0 steps.1 in
-    let f = cond_some (record_fits LogBlock body end xs) (end + 33) c.in_ok-end-2.end (sym c.in_ok-end-2.ensures.answer) in
-    let out = c.in_ok-end-2.ensures.after ∙ ap (λ b. cond b (paste xs end (record_bytes LogBlock body) 33) xs) f.0 in
+    let out = c.put_record-in-loop-piece.new.into in
+    let f = put_some LogBlock body xs out end c.in_ok-end-2.end c.in_ok-end-2.ensures.answer c.in_ok-end-2.ensures.after in
+    let e = f.0 in
     let w =
-    put_more c.put_record.new.into xs c.put_record-in-loop-piece.new.into v body i end (omega arith) (omega arith) c.loop-piece.invariant.written (c.block_body.ensures ∙ ap (zeros_to 32) p.0) c.loop-piece.invariant.place out (omega arith) in
+    put_more c.put_record.new.into xs out v body i end (omega arith) (omega arith) c.loop-piece.invariant.written (c.block_body.ensures ∙ ap (zeros_to 32) p.0) c.loop-piece.invariant.place f.1 (omega arith) in
     let n = length_push c.loop-piece.yielded c.in-Some.piece in
     record {
       size = c.in-Some.ensures.steps.0 ∙ c.loop-piece.invariant.size;
@@ -83,9 +83,8 @@ returns c =
     let d = c.args.into.now in
     let i = length c.loop-piece.yielded in
     let head = c.head_body.result in
-    let s = cond_some (leb (length v) 2048) (entry_size (length v)) c.in_ok-size.size (sym c.in_ok-size.ensures) in
-    let t = cond_some (record_fits LogHead head 0 d) 41 c.in_ok-end.end (sym c.in_ok-end.ensures.answer) in
-    let first = c.in_ok-end.ensures.after ∙ (ap (λ b. cond b (paste d 0 (record_bytes LogHead head) 41) d) t.0 ∙ ap (λ xs. paste d 0 (record_bytes LogHead xs) 41) c.head_body.ensures) in
+    let s = size_some (length v) c.in_ok-size.size c.in_ok-size.ensures in
+    let first = (put_some LogHead head d c.put_record.new.into 0 c.in_ok-end.end c.in_ok-end.ensures.answer c.in_ok-end.ensures.after).1 ∙ ap (λ xs. paste d 0 (record_bytes LogHead xs) 41) c.head_body.ensures in
     let z = c.in-None.ensures.steps.1.0 in
     let r = ap length c.loop-piece.invariant.left in
     let l = length-drop (i * 32) v in
