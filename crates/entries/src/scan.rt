@@ -8,7 +8,7 @@ use crate::entry::Entry;
 use crate::entry::reading::read_entry;
 
 /// The entries from the front of some bytes on, up to the first place where no whole one begins.
-#[derive(Clone, Copy, Debug)]
+#[derive(Debug, Drop)]
 pub struct Entries<'a> {
     // the bytes that are left
     rest: &'a [u8],
