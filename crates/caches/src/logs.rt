@@ -1,39 +1,37 @@
 //! The listing of a log.
 
-ghost use Rattle.std.specs.Prelude.{◌≡◌, ◌≤◌, length, IfOk, string_bytes};
-ghost use Rattle.keys.specs.Digests.{value_room};
+ghost use Rattle.std.specs.Prelude.{◌≡◌, IfOk, string_bytes};
 ghost use Rattle.entries.specs.Entries.{entry_of};
 ghost use Rattle.caches.specs.Listings.{looks_like_log, pair_text, ends_well, entry_line, good_end, bad_end, last_line, log_listing};
 
 use crate::pairs::pair_text;
-use entries::{Entry, VALUE_ROOM, read_entry};
+use entries::{Entries, Entry, VALUE_ROOM};
 use keys::Digest;
 use std::alloc::{AllocError, Global};
+
+/// The first byte of the head of an entry.
+const LOG_HEAD: u8 = 5;
 
 /// Whether a cache file is taken for a log: its first byte is that of the head of an entry.
 pub fn looks_like_log(bytes: &[u8]) -> bool
     ensures { result ≡ looks_like_log bytes.now }
 {
-    match bytes {
-        [5, ..] => true,
-        _ => false,
-    }
+    matches!(bytes, [LOG_HEAD, ..])
 }
 
 /// The pair of an entry as text.
 fn entry_text<D: Digest>(heap: Global, entry: &Entry<'_>) -> Result<String, AllocError>
-    requires { length (entry_of entry.now).part.value ≤ value_room }
-    ensures { IfOk result (λ t. string_bytes t ≡ pair_text D.LONGEST D.words (entry_of entry.now).part.key (entry_of entry.now).part.value) }
+    ensures { IfOk result (λ t. string_bytes t ≡ pair_text D.Digest.most D.Digest.words (entry_of entry.now).part.key (entry_of entry.now).part.value) }
 {
     let mut room = [0u8; VALUE_ROOM];
+    // the room is that of every value
     let _ = entry.fill_value(&mut room);
-    pair_text::<D>(heap, &entry.key(), &room[0..entry.value_len()])
+    pair_text::<D>(heap, &entry.key(), &room[..entry.value_len()])
 }
 
 /// The line of an entry.
 fn entry_line<D: Digest>(heap: Global, entry: &Entry<'_>) -> Result<String, AllocError>
-    requires { length (entry_of entry.now).part.value ≤ value_room }
-    ensures { IfOk result (λ t. string_bytes t ≡ entry_line D.LONGEST D.words (entry_of entry.now).part) }
+    ensures { IfOk result (λ t. string_bytes t ≡ entry_line D.Digest.most D.Digest.words (entry_of entry.now).part) }
 {
     let pair = entry_text::<D>(heap, entry)?;
     format!(in heap; "{pair}\n")
@@ -43,10 +41,7 @@ fn entry_line<D: Digest>(heap: Global, entry: &Entry<'_>) -> Result<String, Allo
 fn ends_well(rest: &[u8]) -> bool
     ensures { result ≡ ends_well rest.now }
 {
-    match rest {
-        [] | [0, ..] => true,
-        _ => false,
-    }
+    matches!(rest, [] | [0, ..])
 }
 
 /// The last line where the entries end as a store leaves them.
@@ -78,11 +73,11 @@ fn last_line(heap: Global, place: usize, rest: &[u8]) -> Result<String, AllocErr
 
 /// The lines of all entries of a log in order, then where they end.
 pub fn log_listing<D: Digest>(heap: Global, bytes: &[u8]) -> Result<String, AllocError>
-    ensures { IfOk result (λ t. string_bytes t ≡ log_listing D.LONGEST D.words bytes.now) }
+    ensures { IfOk result (λ t. string_bytes t ≡ log_listing D.Digest.most D.Digest.words bytes.now) }
 {
     let mut text = String::new(heap);
     let mut rest = bytes;
-    while let Some(entry) = read_entry(rest) {
+    for entry in Entries::new(bytes) {
         let line = entry_line::<D>(heap, &entry)?;
         text.push_str(line.as_str())?;
         rest = entry.rest();

@@ -1,4 +1,5 @@
 pub mod Runs
+pub mod Values
 pub mod Tops
 pub mod Trips
 pub mod Own

@@ -1,9 +1,10 @@
-use Rattle.std.proofs.Common.{◌≡◌, ℕ, ◌+◌, ◌<◌, ◌≤◌, Bool, true, false, cond, leb, List, [], ◌++◌, length, take, drop, Some, None, sym, refl, ap, ◌∙◌, subst, arith}
+use Rattle.std.proofs.Common.{◌≡◌, ℕ, ◌+◌, ◌<◌, ◌≤◌, leb, List, [], ◌++◌, length, take, drop, Some, sym, refl, ap, ◌∙◌, subst, arith}
 use borrow.Rule.Slice.PartMut.{put_mid}
 use Rattle.std.specs.Int.Digits.{AllBelowBase}
 use Rattle.std.proofs.ByRecursion.{All-take, All-drop}
 use Rattle.std.proofs.lemmas.List.{length-append, length-drop, append-nil, take_at, drop_at, drop-drop, drop_all, take-append-drop}
 use Rattle.std.proofs.lemmas.Bool.{le-leb, leb-true}
+use Rattle.std.proofs.lemmas.Option.{cond_some}
 use Rattle.numbers.specs.BigEndian.{big_endian, read_big_endian}
 use Rattle.numbers.proofs.Trips.{length-big_endian}
 use Rattle.numbers.proofs.Trips as NumbersTrip
@@ -23,63 +24,82 @@ length-head_body k n =
     let b = length-big_endian 4 n in
     omega arith
 
+-- what bytes that read as a head consist of
+pub record HeadRead (bs : List ℕ) (s : Split Head) : Type 0 where
+  pub body : List ℕ
+  pub whole : bs ≡ record_bytes LogHead body ++ s.rest
+  pub long : length body ≡ body_length LogHead
+  pub key : read_key (take key_size body) ≡ Some s.part.key
+  pub size : read_big_endian (drop key_size body) ≡ Some s.part.size
+  pub short : s.part.size ≤ 2048
+
+pub head_read : (bs : List ℕ) (s : Split Head) → read_head bs ≡ Some s → HeadRead bs s
+head_read bs s h =
+    let x = then_some (split_record LogHead bs) head_in s h in
+    let body = x.0.part in
+    let rest = x.0.rest in
+    let y = then_some (read_key (take key_size body)) (λ j. and_then (read_big_endian (drop key_size body)) (fitting_head j rest)) s x.2 in
+    let z = then_some (read_big_endian (drop key_size body)) (fitting_head y.0 rest) s y.2 in
+    let o = split_only LogHead bs x.0 x.1 in
+    let f = cond_some (leb z.0 2048) (record { part = record { key = y.0; size = z.0 }; rest = rest }) s z.2 in
+    let ek : y.0 ≡ s.part.key = ap (λ (a : Split Head). a.part.key) f.1 in
+    let en : z.0 ≡ s.part.size = ap (λ (a : Split Head). a.part.size) f.1 in
+    let er : rest ≡ s.rest = ap (λ (a : Split Head). a.rest) f.1 in
+    record {
+      body = body;
+      whole = o.0 ∙ ap (λ xs. record_bytes LogHead body ++ xs) er;
+      long = o.1;
+      key = y.1 ∙ ap Some ek;
+      size = z.1 ∙ ap Some en;
+      short = omega (arith, leb-true z.0 2048 f.0, en);
+    }
+
+-- a head is read from its own bytes, whatever lies behind them
+pub head_again : (bs : List ℕ) (s : Split Head) (r : HeadRead bs s) (other : List ℕ) → read_head (record_bytes LogHead r.body ++ other) ≡ Some (record { part = s.part; rest = other })
+head_again bs s r other =
+    let t = le-leb s.part.size 2048 r.short in
+    ap (λ o. and_then o head_in) (split_back LogHead r.body other r.long)
+    ∙ (ap (λ o. and_then o (λ j. and_then (read_big_endian (drop key_size r.body)) (fitting_head j other))) r.key
+    ∙ (ap (λ o. and_then o (fitting_head s.part.key other)) r.size ∙ rw t refl))
+
 -- a head reads back, whatever lies behind it
 pub head_back : (k : Key) (n : ℕ) (rest : List ℕ) → n ≤ 2048 → read_head (head_bytes k n ++ rest) ≡ Some (record { part = record { key = k; size = n }; rest = rest })
 head_back k n rest small =
-    let body = head_body k n in
     let l = KeysTrip.length-key_bytes k in
-    let s = split_back LogHead body rest (length-head_body k n) in
-    let r : read_key (take key_size body) ≡ Some k = ap read_key (take_at (key_bytes k) (big_endian 4 n) key_size l) ∙ KeysTrip.back k in
-    let m : read_big_endian (drop key_size body) ≡ Some n = ap read_big_endian (drop_at (key_bytes k) (big_endian 4 n) key_size l) ∙ NumbersTrip.back 4 n (omega arith) (omega arith) in
-    let t : leb n 2048 ≡ true = le-leb n 2048 small in
-    ap (λ o. and_then o head_in) s ∙ (ap (λ o. and_then o (λ j. and_then (read_big_endian (drop key_size body)) (fitting_head j rest))) r ∙ (ap (λ o. and_then o (fitting_head k rest)) m ∙ rw t refl))
-
-fitting_from : (k : Key) (n : ℕ) (rest : List ℕ) (s : Split Head) (t : Bool) → t ≡ leb n 2048 → cond t (Some (record { part = record { key = k; size = n }; rest = rest })) None ≡ Some s → (n ≤ 2048) × (◌≡◌ {A = Split Head} (record { part = record { key = k; size = n }; rest = rest }) s)
-fitting_from k n rest s true t h = (leb-true n 2048 (sym t), cc)
-fitting_from k n rest s false t h = let z : ◌≡◌ {A = ℕ} 0 1 = cc in absurd (omega arith)
+    let s : Split Head = record { part = record { key = k; size = n }; rest = rest } in
+    let r : HeadRead (head_bytes k n ++ rest) s =
+    record {
+      body = head_body k n;
+      whole = refl;
+      long = length-head_body k n;
+      key = ap read_key (take_at (key_bytes k) (big_endian 4 n) key_size l) ∙ KeysTrip.back k;
+      size = ap read_big_endian (drop_at (key_bytes k) (big_endian 4 n) key_size l) ∙ NumbersTrip.back 4 n (omega arith) (omega arith);
+      short = small;
+    } in
+    head_again (head_bytes k n ++ rest) s r rest
 
 -- bytes that read as a head are that head's own
-pub head_only : (bs : List ℕ) (s : Split Head) → AllBelowBase 256 bs → read_head bs ≡ Some s → (bs ≡ head_bytes s.part.key s.part.size ++ s.rest) × (s.part.size ≤ 2048)
+pub head_only : (bs : List ℕ) (s : Split Head) → AllBelowBase 256 bs → read_head bs ≡ Some s → bs ≡ head_bytes s.part.key s.part.size ++ s.rest
 head_only bs s u h =
-    let x = then_some (split_record LogHead bs) head_in s h in
-    let body = x.0.part in
-    let rest = x.0.rest in
-    let y = then_some (read_key (take key_size body)) (λ j. and_then (read_big_endian (drop key_size body)) (fitting_head j rest)) s x.2 in
-    let z = then_some (read_big_endian (drop key_size body)) (fitting_head y.0 rest) s y.2 in
-    let n = z.0 in
-    let o = split_only LogHead bs x.0 x.1 in
+    let r = head_read bs s h in
+    let body = r.body in
+    let n = s.part.size in
     let Bytes : List ℕ → Type 0 = λ xs. AllBelowBase 256 xs in
-    let ub = under_left body rest (subst Bytes o.0 u).1 in
+    let ub = under_left body s.rest (subst Bytes r.whole u).1 in
     let ld = length-drop key_size body in
+    let long = r.long in
     let four : length (drop key_size body) ≡ 4 = omega arith in
-    let key = KeysTrip.only (take key_size body) y.0 (All-take (λ b. b < 256) key_size body ub) y.1 in
-    let num : drop key_size body ≡ big_endian 4 n = NumbersTrip.only (drop key_size body) n (All-drop (λ b. b < 256) key_size body ub) z.1 ∙ ap (λ j. big_endian j n) four in
-    let f = fitting_from y.0 n rest s (leb n 2048) refl z.2 in
-    let whole : body ≡ head_body y.0 n = sym (take-append-drop key_size body) ∙ (ap (λ xs. xs ++ drop key_size body) key ∙ ap (λ xs. key_bytes y.0 ++ xs) num) in
-    let ek : y.0 ≡ s.part.key = ap (λ (a : Split Head). a.part.key) f.1 in
-    let en : n ≡ s.part.size = ap (λ (a : Split Head). a.part.size) f.1 in
-    let er : rest ≡ s.rest = ap (λ (a : Split Head). a.rest) f.1 in (
-      o.0 ∙ (ap (λ xs. record_bytes LogHead xs ++ rest) whole ∙ (ap (λ k. head_bytes k n ++ rest) ek ∙ (ap (λ m. head_bytes s.part.key m ++ rest) en ∙ ap (λ xs. head_bytes s.part.key s.part.size ++ xs) er))),
-      omega (arith, f.0, en),
-    )
+    let key = KeysTrip.only (take key_size body) s.part.key (All-take (λ b. b < 256) key_size body ub) r.key in
+    let num : drop key_size body ≡ big_endian 4 n = NumbersTrip.only (drop key_size body) n (All-drop (λ b. b < 256) key_size body ub) r.size ∙ ap (λ j. big_endian j n) four in
+    let whole : body ≡ head_body s.part.key n = sym (take-append-drop key_size body) ∙ (ap (λ xs. xs ++ drop key_size body) key ∙ ap (λ xs. key_bytes s.part.key ++ xs) num) in
+    r.whole ∙ ap (λ xs. record_bytes LogHead xs ++ s.rest) whole
 
--- a head takes its size, and its length is within the room of a value
-pub head_span : (bs : List ℕ) (s : Split Head) → read_head bs ≡ Some s → (s.part.size ≤ 2048) × (length bs ≡ record_size LogHead + length s.rest) × (s.rest ≡ drop (record_size LogHead) bs)
-head_span bs s h =
-    let x = then_some (split_record LogHead bs) head_in s h in
-    let body = x.0.part in
-    let rest = x.0.rest in
-    let y = then_some (read_key (take key_size body)) (λ j. and_then (read_big_endian (drop key_size body)) (fitting_head j rest)) s x.2 in
-    let z = then_some (read_big_endian (drop key_size body)) (fitting_head y.0 rest) s y.2 in
-    let o = split_only LogHead bs x.0 x.1 in
-    let f = fitting_from y.0 z.0 rest s (leb z.0 2048) refl z.2 in
-    let en : z.0 ≡ s.part.size = ap (λ (a : Split Head). a.part.size) f.1 in
-    let er : rest ≡ s.rest = ap (λ (a : Split Head). a.rest) f.1 in
-    let lr = ap length er in
-    let lb = o.1 in
-    let l = ap length o.0 ∙ length-append (record_bytes LogHead body) rest in
-    let d = ap (drop (record_size LogHead)) o.0 ∙ drop_at (record_bytes LogHead body) rest (record_size LogHead) (omega arith) in
-    (omega (arith, f.0, en), omega arith, sym (d ∙ er))
+-- a head takes its size
+pub head_span : (bs : List ℕ) (s : Split Head) → HeadRead bs s → (length bs ≡ record_size LogHead + length s.rest) × (s.rest ≡ drop (record_size LogHead) bs)
+head_span bs s r =
+    let long = r.long in
+    let l = ap length r.whole ∙ length-append (record_bytes LogHead r.body) s.rest in
+    (omega arith, sym (ap (drop (record_size LogHead)) r.whole ∙ drop_at (record_bytes LogHead r.body) s.rest (record_size LogHead) (omega arith)))
 
 -- a key's bytes and a number's, put into a body one after the other
 pub head_put : (a z w xs out : List ℕ) → length a ≡ key_size → length z ≡ 4 → xs ≡ a ++ z → out ≡ put_mid key_size 4 xs w → out ≡ a ++ w
@@ -89,21 +109,6 @@ head_put a z w xs out la lz ex eo =
     let lx = ap length ex in
     let d : drop 4 (drop key_size xs) ≡ [] = drop-drop 4 key_size xs ∙ drop_all (body_length LogHead) xs (omega arith) in
     eo ∙ (ap (λ ys. ys ++ (w ++ drop 4 (drop key_size xs))) t ∙ (ap (λ ys. a ++ (w ++ ys)) d ∙ ap (λ ys. a ++ ys) (append-nil w)))
-
--- a head, as far as its record and its key are read
-head_parts : (bs body rest tail : List ℕ) (k : Key) → Some (record { part = body; rest = rest }) ≡ split_record LogHead bs → Some k ≡ read_key (take key_size body) → tail ≡ drop key_size body → read_head bs ≡ and_then (read_big_endian tail) (fitting_head k rest)
-head_parts bs body rest tail k s r t =
-    ap (λ o. and_then o head_in) (sym s) ∙ (ap (λ o. and_then o (λ j. and_then (read_big_endian (drop key_size body)) (fitting_head j rest))) (sym r) ∙ ap (λ xs. and_then (read_big_endian xs) (fitting_head k rest)) (sym t))
-
--- a head whose length is not read
-pub head_none : (bs body rest tail : List ℕ) (k : Key) → Some (record { part = body; rest = rest }) ≡ split_record LogHead bs → Some k ≡ read_key (take key_size body) → tail ≡ drop key_size body → None ≡ read_big_endian tail → None ≡ read_head bs
-head_none bs body rest tail k s r t m =
-    sym (head_parts bs body rest tail k s r t ∙ ap (λ o. and_then o (fitting_head k rest)) (sym m))
-
--- a head whose length is read: it is there where the length is within the room of a value
-pub head_made : (bs body rest tail : List ℕ) (k : Key) (n : ℕ) → Some (record { part = body; rest = rest }) ≡ split_record LogHead bs → Some k ≡ read_key (take key_size body) → tail ≡ drop key_size body → Some n ≡ read_big_endian tail → read_head bs ≡ fitting_head k rest n
-head_made bs body rest tail k n s r t m =
-    head_parts bs body rest tail k s r t ∙ ap (λ o. and_then o (fitting_head k rest)) (sym m)
 
 -- the body of a head record has its length
 pub head_long : (bs body rest : List ℕ) → Some (record { part = body; rest = rest }) ≡ split_record LogHead bs → length body ≡ body_length LogHead

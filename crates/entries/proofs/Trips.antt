@@ -1,16 +1,17 @@
-use Rattle.std.proofs.Common.{◌≡◌, ℕ, ◌+◌, ◌-◌, ◌*◌, ◌≤◌, Bool, true, false, cond, List, ◌++◌, length, take, drop, Some, None, sym, refl, ap, ◌∙◌, arith}
+use Rattle.std.proofs.Common.{◌≡◌, ℕ, ◌+◌, ◌*◌, ◌≤◌, true, List, ◌++◌, length, take, drop, Some, sym, refl, ap, ◌∙◌, arith}
 use Rattle.std.specs.Int.Digits.{AllBelowBase}
-use Rattle.std.proofs.lemmas.List.{append_assoc, length-append, length-take-le, drop_at, drop-drop, take_rest}
+use Rattle.std.proofs.lemmas.List.{append_assoc, length-append, length-take-le, drop_at, drop-drop}
 use Rattle.keys.specs.declared.key.Key.{Key}
 use Rattle.records.specs.declared.kind.Kind.TheVariants.{LogHead}
 use Rattle.records.specs.Records.{Split, record_size, and_then}
+use Rattle.std.proofs.lemmas.Option.{cond_some}
 use Rattle.records.proofs.Trips.{then_some}
 use Rattle.lists.specs.Each.{all_zero}
-use Rattle.entries.specs.Blocks.{block_count, entry_size, padded, exactly, blocks, whole_blocks, joined_bodies, bodies}
+use Rattle.entries.specs.Blocks.{block_count, entry_size, padded, blocks, bodies}
 use Rattle.entries.specs.Heads.{Head, head_bytes, read_head}
 use Rattle.entries.specs.Entries.{Logged, entry_bytes, unpadded, with_value, read_entry}
-use Rattle.entries.proofs.Runs.{length-padded, length-blocks, length-bodies, exactly_enough, whole_long, split_blocks_back, split_blocks_only, take-padded, drop-padded, padded_only}
-use Rattle.entries.proofs.Tops.{length-head_body, head_back, head_only, head_span}
+use Rattle.entries.proofs.Runs.{length-padded, length-blocks, split_blocks_back, split_blocks_only, take-padded, drop-padded, padded_only}
+use Rattle.entries.proofs.Tops.{length-head_body, head_read, head_back, head_only, head_span}
 
 pub sizes : (k : Key) (v : List ℕ) → length (entry_bytes k v) ≡ entry_size (length v)
 sizes k v =
@@ -32,67 +33,64 @@ back k v rest small =
     let t = take-padded v in
     ap (λ o. and_then o with_value) a ∙ (ap (λ o. and_then o (unpadded h)) b ∙ rw (z, t) refl)
 
-unpadded_from : (h : Head) (s : Split (List ℕ)) (e : Split Logged) (t : Bool) → t ≡ all_zero (drop h.size s.part) → cond t (Some (record { part = record { key = h.key; value = take h.size s.part }; rest = s.rest })) None ≡ Some e → (all_zero (drop h.size s.part) ≡ true) × (◌≡◌ {A = Split Logged} (record { part = record { key = h.key; value = take h.size s.part }; rest = s.rest }) e)
-unpadded_from h s e true t w = (sym t, cc)
-unpadded_from h s e false t w = let z : ◌≡◌ {A = ℕ} 0 1 = cc in absurd (omega arith)
+-- what bytes that read as an entry consist of
+pub record EntryRead (bs : List ℕ) (e : Split Logged) : Type 0 where
+  pub behind : List ℕ
+  pub part : List ℕ
+  pub head : read_head bs ≡ Some (record { part = record { key = e.part.key; size = length e.part.value }; rest = behind })
+  pub run : bodies (block_count (length e.part.value)) behind ≡ Some (record { part = part; rest = e.rest })
+  pub value : take (length e.part.value) part ≡ e.part.value
+  pub zero : all_zero (drop (length e.part.value) part) ≡ true
 
-pub only : (bs : List ℕ) (e : Split Logged) → AllBelowBase 256 bs → read_entry bs ≡ Some e → (bs ≡ entry_bytes e.part.key e.part.value ++ e.rest) × (length e.part.value ≤ 2048)
-only bs e u w =
+pub entry_read : (bs : List ℕ) (e : Split Logged) → read_entry bs ≡ Some e → EntryRead bs e
+entry_read bs e w =
     let x = then_some (read_head bs) with_value e w in
     let h = x.0.part in
     let n = h.size in
     let y = then_some (bodies (block_count n) x.0.rest) (unpadded h) e x.2 in
-    let top = head_only bs x.0 u x.1 in
+    let part = y.0.part in
+    let f = cond_some (all_zero (drop n part)) (record { part = record { key = h.key; value = take n part }; rest = y.0.rest }) e y.2 in
     let run = split_blocks_only (block_count n) x.0.rest y.0 y.1 in
-    let f = unpadded_from h y.0 e (all_zero (drop n y.0.part)) refl y.2 in
-    let p = padded_only n y.0.part run.1 f.0 in
+    let l = run.1 in
     let ek : h.key ≡ e.part.key = ap (λ (z : Split Logged). z.part.key) f.1 in
-    let ev : take n y.0.part ≡ e.part.value = ap (λ (z : Split Logged). z.part.value) f.1 in
+    let ev : take n part ≡ e.part.value = ap (λ (z : Split Logged). z.part.value) f.1 in
     let er : y.0.rest ≡ e.rest = ap (λ (z : Split Logged). z.rest) f.1 in
-    let el : n ≡ length e.part.value = sym p.1 ∙ ap length ev in
-    let ep : y.0.part ≡ padded e.part.value = sym p.0 ∙ ap padded ev in
-    let made : ℕ → List ℕ → List ℕ → List ℕ = λ m q r. blocks (block_count m) q ++ r in
-    let tail : x.0.rest ≡ made (length e.part.value) (padded e.part.value) e.rest =
-    run.0 ∙ (ap (λ m. made m y.0.part y.0.rest) el ∙ (ap (λ q. made (length e.part.value) q y.0.rest) ep ∙ ap (made (length e.part.value) (padded e.part.value)) er)) in (
-      top.0 ∙ (ap (λ k. head_bytes k n ++ x.0.rest) ek ∙ (ap (λ m. head_bytes e.part.key m ++ x.0.rest) el ∙ (ap (λ xs. head_bytes e.part.key (length e.part.value) ++ xs) tail
-          ∙ sym (append_assoc (head_bytes e.part.key (length e.part.value)) (blocks (block_count (length e.part.value)) (padded e.part.value)) e.rest)))),
-      omega (arith, top.1, el),
+    let el : n ≡ length e.part.value = sym (length-take-le n part (omega arith)) ∙ ap length ev in
+    let top : Key → ℕ → Split Head = λ k m. record { part = record { key = k; size = m }; rest = x.0.rest } in
+    let split : List ℕ → Split (List ℕ) = λ xs. record { part = part; rest = xs } in
+    record {
+      behind = x.0.rest;
+      part = part;
+      head = x.1 ∙ ap Some (ap (λ k. top k n) ek ∙ ap (top e.part.key) el);
+      run = ap (λ m. bodies (block_count m) x.0.rest) (sym el) ∙ (y.1 ∙ ap (λ xs. Some (split xs)) er);
+      value = ap (λ m. take m part) (sym el) ∙ ev;
+      zero = ap (λ m. all_zero (drop m part)) (sym el) ∙ f.0;
+    }
+
+pub only : (bs : List ℕ) (e : Split Logged) → AllBelowBase 256 bs → read_entry bs ≡ Some e → (bs ≡ entry_bytes e.part.key e.part.value ++ e.rest) × (length e.part.value ≤ 2048)
+only bs e u w =
+    let r = entry_read bs e w in
+    let n = length e.part.value in
+    let top = head_bytes e.part.key n in
+    let run = split_blocks_only (block_count n) r.behind _ r.run in
+    let p : r.part ≡ padded e.part.value = sym (padded_only n r.part run.1 r.zero).0 ∙ ap padded r.value in
+    let tail : r.behind ≡ blocks (block_count n) (padded e.part.value) ++ e.rest = run.0 ∙ ap (λ xs. blocks (block_count n) xs ++ e.rest) p in (
+      head_only bs _ u r.head ∙ (ap (λ xs. top ++ xs) tail ∙ sym (append_assoc top (blocks (block_count n) (padded e.part.value)) e.rest)),
+      (head_read bs _ r.head).short,
     )
 
 -- an entry's value is within its room, and the entry takes its size: no need to know that bytes are bytes
 pub span : (bs : List ℕ) (e : Split Logged) → read_entry bs ≡ Some e → (length e.part.value ≤ 2048) × (length bs ≡ entry_size (length e.part.value) + length e.rest) × (e.rest ≡ drop (entry_size (length e.part.value)) bs)
 span bs e w =
-    let x = then_some (read_head bs) with_value e w in
-    let h = x.0.part in
-    let n = h.size in
-    let y = then_some (bodies (block_count n) x.0.rest) (unpadded h) e x.2 in
-    let top = head_span bs x.0 x.1 in
-    let run = split_blocks_only (block_count n) x.0.rest y.0 y.1 in
-    let f = unpadded_from h y.0 e (all_zero (drop n y.0.part)) refl y.2 in
-    let ev : take n y.0.part ≡ e.part.value = ap (λ (z : Split Logged). z.part.value) f.1 in
-    let er : y.0.rest ≡ e.rest = ap (λ (z : Split Logged). z.rest) f.1 in
+    let r = entry_read bs e w in
+    let size = block_count (length e.part.value) * 33 in
+    let head = head_read bs _ r.head in
+    let top = head_span bs _ head in
+    let run = split_blocks_only (block_count (length e.part.value)) r.behind _ r.run in
     let l = run.1 in
-    let el : n ≡ length e.part.value = sym (length-take-le n y.0.part (omega arith)) ∙ ap length ev in
-    let b = blocks (block_count n) y.0.part in
-    let lb = length-blocks (block_count n) y.0.part (omega arith) in
-    let lr = ap length run.0 ∙ length-append b y.0.rest in
-    let le = ap length er in
-    let d : e.rest ≡ drop (block_count n * 33) x.0.rest = sym er ∙ sym (ap (drop (block_count n * 33)) run.0 ∙ drop_at b y.0.rest (block_count n * 33) lb) in
-    let m : record_size LogHead + block_count n * 33 ≡ entry_size (length e.part.value) = omega arith in
-    let g : drop (block_count n * 33) x.0.rest ≡ drop (entry_size (length e.part.value)) bs =
-    ap (drop (block_count n * 33)) top.2 ∙ (drop-drop (block_count n * 33) (record_size LogHead) bs ∙ ap (λ j. drop j bs) m) in
-    (omega (arith, top.0), omega (arith, top.1), d ∙ g)
-
--- an entry, once its head is read, its blocks are whole and its padding is zero
-pub entry_made : (bs behind rest : List ℕ) (k : Key) (n m : ℕ) → Some (record { part = record { key = k; size = n }; rest = behind }) ≡ read_head bs → m ≡ block_count n → true ≡ whole_blocks m behind → true ≡ all_zero (drop n (joined_bodies (block_count n) behind)) → rest ≡ take (length behind - m * 33) (drop (m * 33) behind) → Some (record { part = record { key = k; value = exactly n (joined_bodies (block_count n) behind) }; rest = rest }) ≡ read_entry bs
-entry_made bs behind rest k n m h em w z r =
-    let b = block_count n in
-    let js = joined_bodies b behind in
-    let t : whole_blocks b behind ≡ true = sym (w ∙ ap (λ j. whole_blocks j behind) em) in
-    let y : all_zero (drop n js) ≡ true = sym z in
-    let l = length-bodies b behind (whole_long b behind t) in
-    let v = exactly_enough n js (omega arith) in
-    let d : rest ≡ drop (b * 33) behind = r ∙ (take_rest behind (m * 33) ∙ ap (λ j. drop (j * 33) behind) em) in
-    let made : List ℕ → List ℕ → Split Logged = λ xs ys. record { part = record { key = k; value = xs }; rest = ys } in
-    let e : made (exactly n js) rest ≡ made (take n js) (drop (b * 33) behind) = ap (λ xs. made xs rest) v ∙ ap (made (take n js)) d in
-    ap Some e ∙ sym (ap (λ o. and_then o with_value) (sym h) ∙ rw (t, y) refl)
+    let b = blocks (block_count (length e.part.value)) r.part in
+    let lb : length b ≡ size = length-blocks (block_count (length e.part.value)) r.part (omega arith) in
+    let lr = ap length run.0 ∙ length-append b e.rest in
+    let first = top.0 in
+    let d : drop size r.behind ≡ e.rest = ap (drop size) run.0 ∙ drop_at b e.rest size lb in
+    (head.short, omega arith, sym d ∙ (ap (drop size) top.1 ∙ drop-drop size (record_size LogHead) bs))

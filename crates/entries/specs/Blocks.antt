@@ -1,5 +1,4 @@
 use Rattle.std.specs.Prelude.{ℕ, zero, suc, ◌+◌, ◌-◌, ◌*◌, ◌/◌, ◌%◌, Bool, true, cond, ◌&&◌, List, [], ◌++◌, length, take, drop, Some, None, Option, nat_le}
-use Rattle.std.proofs.Math.Seq.{paste}
 use Rattle.lists.specs.Each.{zeros_to}
 use Rattle.records.specs.declared.kind.Kind.TheVariants.{LogHead, LogBlock}
 use Rattle.records.specs.Records.{Split, block_size, record_size, record_bytes, begins_record}
@@ -20,10 +19,6 @@ entry_size n = record_size LogHead + blocks_size (block_count n)
 abbrev pub filled : List ℕ → List ℕ → List ℕ
 filled bs buffer = cond (nat_le (length bs) (length buffer)) (zeros_to (length buffer) bs) buffer
 
--- the first n bytes of some, zeros standing for those that are not there
-abbrev pub exactly : ℕ → List ℕ → List ℕ
-exactly n bs = take n (zeros_to n bs)
-
 -- a value, then zeros up to whole blocks
 abbrev pub padded : List ℕ → List ℕ
 padded v = zeros_to (block_count (length v) * block_size) v
@@ -33,15 +28,15 @@ abbrev pub blocks : ℕ → List ℕ → List ℕ
 blocks zero bs = []
 blocks (suc n) bs = record_bytes LogBlock (take block_size bs) ++ blocks n (drop block_size bs)
 
--- what a buffer holds once the blocks of a value are written behind the place of a head
-abbrev pub with_blocks : List ℕ → List ℕ → List ℕ
-with_blocks v buffer =
-    paste buffer (record_size LogHead) (blocks (block_count (length v)) (padded v)) (blocks_size (block_count (length v)))
-
 -- whether n whole block records stand at the front of bytes
 abbrev pub whole_blocks : ℕ → List ℕ → Bool
 whole_blocks zero bs = true
 whole_blocks (suc n) bs = begins_record LogBlock bs && whole_blocks n (drop (record_size LogBlock) bs)
+
+-- n whole block records at the front and the bytes behind, absent unless all n are whole
+abbrev pub split_blocks : ℕ → List ℕ → Option (Split (List ℕ))
+split_blocks n bs =
+    cond (whole_blocks n bs) (Some (record { part = take (blocks_size n) bs; rest = drop (blocks_size n) bs })) None
 
 -- the bodies of the first n block records, joined
 abbrev pub joined_bodies : ℕ → List ℕ → List ℕ

@@ -5,8 +5,8 @@ use Rattle.records.specs.Records.{Split, and_then}
 use Rattle.records.specs.Results.{with_front, front_size}
 use Rattle.lists.specs.Each.{all_zero}
 use Rattle.keys.specs.Digests.{value_room}
-use Rattle.entries.specs.Blocks.{block_count, entry_size, padded, blocks, joined_bodies, bodies, exactly}
-use Rattle.entries.specs.Heads.{Head, head_bytes, read_head, key_in}
+use Rattle.entries.specs.Blocks.{block_count, entry_size, padded, blocks, joined_bodies, bodies}
+use Rattle.entries.specs.Heads.{Head, head_bytes, read_head}
 use Rattle.entries.specs.declared.entry.Entry.{Entry}
 
 -- what an entry logs: a key and its value
@@ -31,13 +31,17 @@ with_value h = and_then (bodies (block_count h.part.size) h.rest) (unpadded h.pa
 abbrev pub read_entry : List ℕ → Option (Split Logged)
 read_entry bs = and_then (read_head bs) with_value
 
--- the value of a borrowed entry: the bytes at the front of its blocks, all of which are there once it is read
+-- the bodies of the blocks of a borrowed entry, joined
+abbrev pub bodies_of : Entry → List ℕ
+bodies_of e = joined_bodies (block_count e.head.size) e.blocks.now
+
+-- the value of a borrowed entry: the bytes at the front of its blocks
 abbrev pub value_of : Entry → List ℕ
-value_of e = exactly e.size (joined_bodies (block_count e.size) e.blocks.now)
+value_of e = take e.head.size (bodies_of e)
 
 -- a borrowed entry, as what it logs and the bytes behind
 abbrev pub entry_of : Entry → Split Logged
-entry_of e = record { part = record { key = key_in e.name.now; value = value_of e }; rest = e.rest.now }
+entry_of e = record { part = record { key = e.head.key; value = value_of e }; rest = e.rest.now }
 
 -- what a buffer holds once an entry is written at its front, where the value is one and the entry fits
 abbrev pub with_entry : Key → List ℕ → List ℕ → List ℕ

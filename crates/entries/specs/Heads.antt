@@ -1,12 +1,12 @@
-use Rattle.std.specs.Prelude.{ℕ, cond, List, [], ◌∷◌, ◌++◌, take, drop, Some, None, Option, nat_le}
+use Rattle.std.specs.Prelude.{ℕ, cond, List, ◌++◌, take, drop, Some, None, Option, nat_le}
 use Rattle.std.specs.Borrow.{Bor}
-use Rattle.std.specs.Option.{unwrap_or}
 use Rattle.numbers.specs.BigEndian.{big_endian, read_big_endian}
-use Rattle.keys.specs.Keys.{key_size, make_key, key_bytes, read_key}
+use Rattle.keys.specs.Keys.{key_size, key_bytes, read_key}
 use Rattle.keys.specs.declared.key.Key.{Key}
 use Rattle.records.specs.declared.kind.Kind.TheVariants.{LogHead}
 use Rattle.records.specs.Records.{Split, record_bytes, split_record, and_then}
 use Rattle.keys.specs.Digests.{value_room}
+use Rattle.entries.specs.declared.entry.EntryHead.{EntryHead}
 
 -- the head of an entry: a key, and the length of the value
 pub record Head : Type 0 where
@@ -34,10 +34,6 @@ head_in s =
 abbrev pub read_head : List ℕ → Option (Split Head)
 read_head bs = and_then (split_record LogHead bs) head_in
 
--- the key that some bytes write, and the key of zeros for bytes that write none
-abbrev pub key_in : List ℕ → Key
-key_in bs = unwrap_or (read_key bs) (make_key (0 ∷ 0 ∷ 0 ∷ 0 ∷ []) 0)
-
--- the borrowed bytes of a key, a length and borrowed bytes, as the head and the rest that they are
-abbrev pub head_of : Bor (List ℕ) × ℕ × Bor (List ℕ) → Split Head
-head_of p = record { part = record { key = key_in p.0.now; size = p.1 }; rest = p.2.now }
+-- what a head that is read says, and borrowed bytes, as the head and the rest that they are
+abbrev pub head_of : EntryHead × Bor (List ℕ) → Split Head
+head_of p = record { part = record { key = p.0.key; size = p.0.size }; rest = p.1.now }

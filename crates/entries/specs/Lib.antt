@@ -1,3 +1,4 @@
 pub mod Blocks
 pub mod Heads
 pub mod Entries
+pub mod Scans

@@ -5,11 +5,6 @@ use Rattle.keys.specs.Keys.{key_size}
 use Rattle.entries.proofs.Tops.{head_put}
 use Rattle.entries.proofs.heads.head_body.Goals as goal
 
-pub slice_bounds-body-end-2 : goal.slice_bounds-body-end-2
-slice_bounds-body-end-2 c =
-    let l = length-append c.copy_from_slice.new.self (0 ∷ 0 ∷ 0 ∷ 0 ∷ []) in
-    omega arith
-
 pub returns : goal.returns
 returns c =
     let a = c.copy_from_slice.new.self in

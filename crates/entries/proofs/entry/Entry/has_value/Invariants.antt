@@ -1,7 +1,0 @@
-use Rattle.std.proofs.Common.{◌≡◌, ℕ, ◌<◌, get_or}
-use Rattle.entries.specs.Entries.{value_of}
-use Rattle.entries.proofs.entry.Entry.has_value.Given as goal
-
--- the bytes below i are the value's
-abbrev pub invariant-loop-i : goal.invariant-loop-i
-invariant-loop-i l = (k : ℕ) → k < l.i → get_or (value_of l.self) k 0 ≡ get_or l.value k 0
