@@ -21,7 +21,7 @@ pub fn looks_like_log(bytes: &[u8]) -> bool
 
 /// The pair of an entry as text.
 fn entry_text<D: Digest>(heap: Global, entry: &Entry<'_>) -> Result<String, AllocError>
-    ensures { IfOk result (λ t. string_bytes t ≡ pair_text D.Digest.most D.Digest.words (entry_of entry.now).part.key (entry_of entry.now).part.value) }
+    ensures { IfOk result (λ t. string_bytes t ≡ pair_text D.LONGEST D.words (entry_of entry.now).part.key (entry_of entry.now).part.value) }
 {
     let mut room = [0u8; VALUE_ROOM];
     // the room is that of every value
@@ -31,7 +31,7 @@ fn entry_text<D: Digest>(heap: Global, entry: &Entry<'_>) -> Result<String, Allo
 
 /// The line of an entry.
 fn entry_line<D: Digest>(heap: Global, entry: &Entry<'_>) -> Result<String, AllocError>
-    ensures { IfOk result (λ t. string_bytes t ≡ entry_line D.Digest.most D.Digest.words (entry_of entry.now).part) }
+    ensures { IfOk result (λ t. string_bytes t ≡ entry_line D.LONGEST D.words (entry_of entry.now).part) }
 {
     let pair = entry_text::<D>(heap, entry)?;
     format!(in heap; "{pair}\n")
@@ -73,7 +73,7 @@ fn last_line(heap: Global, place: usize, rest: &[u8]) -> Result<String, AllocErr
 
 /// The lines of all entries of a log in order, then where they end.
 pub fn log_listing<D: Digest>(heap: Global, bytes: &[u8]) -> Result<String, AllocError>
-    ensures { IfOk result (λ t. string_bytes t ≡ log_listing D.Digest.most D.Digest.words bytes.now) }
+    ensures { IfOk result (λ t. string_bytes t ≡ log_listing D.LONGEST D.words bytes.now) }
 {
     let mut text = String::new(heap);
     let mut rest = bytes;

@@ -9,14 +9,14 @@ use std::alloc::{AllocError, Global};
 
 /// Whether a key is the key of a value under a digest.
 fn is_own_key<D: Digest>(key: &Key, value: &[u8]) -> bool
-    ensures { result ≡ is_own_key D.Digest.most D.Digest.words key.now value.now }
+    ensures { result ≡ is_own_key D.LONGEST D.words key.now value.now }
 {
     key_of::<D>(value).is_some_and(|own| own == *key)
 }
 
 /// Whether the key of a pair is that of its value, in words.
 fn own_word<D: Digest>(key: &Key, value: &[u8]) -> &'static str
-    ensures { result.now ≡ own_word D.Digest.most D.Digest.words key.now value.now }
+    ensures { result.now ≡ own_word D.LONGEST D.words key.now value.now }
 {
     if is_own_key::<D>(key, value) {
         "own-key"
@@ -38,7 +38,7 @@ pub(crate) fn pair_text<D: Digest>(
     key: &Key,
     value: &[u8],
 ) -> Result<String, AllocError>
-    ensures { IfOk result (λ t. string_bytes t ≡ pair_text D.Digest.most D.Digest.words key.now value.now) }
+    ensures { IfOk result (λ t. string_bytes t ≡ pair_text D.LONGEST D.words key.now value.now) }
 {
     let text = key_text(heap, key)?;
     let word = own_word::<D>(key, value);

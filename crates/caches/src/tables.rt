@@ -19,7 +19,7 @@ fn about_slot(heap: Global, i: usize, text: &str) -> Result<String, AllocError>
 
 /// The line of a slot: its pair, or that it is damaged; nothing for an empty slot.
 fn slot_line<D: Digest>(heap: Global, store: &Slots, i: usize) -> Result<String, AllocError>
-    ensures { IfOk result (λ t. string_bytes t ≡ slot_line D.Digest.most D.Digest.words i (is_damaged_at i (bytes_of store.now)) (pair_at i (bytes_of store.now))) }
+    ensures { IfOk result (λ t. string_bytes t ≡ slot_line D.LONGEST D.words i (is_damaged_at i (bytes_of store.now)) (pair_at i (bytes_of store.now))) }
 {
     match (store.key_at(i), store.value_at(i)) {
         (Some(key), Some(value)) => {
@@ -33,7 +33,7 @@ fn slot_line<D: Digest>(heap: Global, store: &Slots, i: usize) -> Result<String,
 
 /// The lines of all slots that hold a pair or are damaged, in order.
 pub fn slots_listing<D: Digest>(heap: Global, store: &Slots) -> Result<String, AllocError>
-    ensures { IfOk result (λ t. string_bytes t ≡ slots_listing D.Digest.most D.Digest.words (bytes_of store.now)) }
+    ensures { IfOk result (λ t. string_bytes t ≡ slots_listing D.LONGEST D.words (bytes_of store.now)) }
 {
     let mut text = String::new(heap);
     // kept: a slot is asked for by its number, and its line says the number

@@ -16,7 +16,7 @@ loop-entry-preserved g c =
     record {
       at = c.in-Some.ensures.steps.1 ∙ sym c.rest-rest.ensures;
       lines =
-          entry_more g.D.Digest.most g.D.Digest.words bs rest next (string_bytes c.loop-entry.text) c.as_str.result.now (string_bytes c.push_str.new.self) e h c.rest-rest.ensures
+          entry_more g.D.Digest.LONGEST g.D.Digest.words bs rest next (string_bytes c.loop-entry.text) c.as_str.result.now (string_bytes c.push_str.new.self) e h c.rest-rest.ensures
           (c.as_str.ensures.value ∙ c.in_ok-line.ensures) (pushed c.as_str.result.now refl c.in_ok-push_str.was c.push_str.ensures.bytes) inv.lines;
       rest = passed_rest bs rest next e h c.rest-rest.ensures inv.rest;
     }
@@ -29,5 +29,5 @@ overflow_sub-bytes g c =
 pub returns : goal.returns
 returns g c =
     let inv = c.loop-entry.invariant in
-    listed g.D.Digest.most g.D.Digest.words c.args.bytes.now c.loop-entry.rest.now (string_bytes c.loop-entry.text) c.as_str-2.result.now _ (c.in-None.ensures.steps.0 ∙ ap read_entry inv.at) inv.lines inv.rest
+    listed g.D.Digest.LONGEST g.D.Digest.words c.args.bytes.now c.loop-entry.rest.now (string_bytes c.loop-entry.text) c.as_str-2.result.now _ (c.in-None.ensures.steps.0 ∙ ap read_entry inv.at) inv.lines inv.rest
     (c.as_str-2.ensures.value ∙ c.in_ok-last.ensures) (pushed c.as_str-2.result.now refl c.in_ok-push_str-2.was c.push_str-2.ensures.bytes)

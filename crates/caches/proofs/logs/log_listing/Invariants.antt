@@ -9,6 +9,6 @@ abbrev pub invariant-loop-entry : goal.invariant-loop-entry
 invariant-loop-entry g l =
     record {
       at : left_of l.entry-iterator ≡ l.rest;
-      lines : entry_lines g.D.Digest.most g.D.Digest.words (log_entries l.bytes) ≡ string_bytes l.text ++ entry_lines g.D.Digest.most g.D.Digest.words (log_entries l.rest);
+      lines : entry_lines g.D.Digest.LONGEST g.D.Digest.words (log_entries l.bytes) ≡ string_bytes l.text ++ entry_lines g.D.Digest.LONGEST g.D.Digest.words (log_entries l.rest);
       rest : log_rest l.bytes ≡ log_rest l.rest;
     }
