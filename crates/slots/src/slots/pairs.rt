@@ -46,6 +46,7 @@ impl Slots {
     }
 
     /// The value in the lowest slot of a key.
+    #[tactic(auto, using(crate::specs::Pairs::found_value))]
     pub(crate) fn value_of(&self, key: &Key) -> Option<&[u8]>
         ensures { option_map (λ x. x.now) result ≡ value_found key.now (bytes_of self.now) }
     {

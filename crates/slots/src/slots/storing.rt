@@ -98,5 +98,4 @@ impl Store for Slots {
 /// Carries the theorem that a store made from the bytes of another holds the same pairs.
 pub fn slots_reopen()
     ensures { Reopened }
-{
-}
+{}
