@@ -73,11 +73,9 @@ pub(crate) fn append(bytes: &mut [u8], end: usize, key: &Key, value: &[u8]) -> O
 /// Carries the theorem that entries written one after another read back, and that no other bytes read as them.
 pub fn logs_round_trip()
     ensures { LogsRoundTrip }
-{
-}
+{}
 
 /// Carries the theorem that an appended entry becomes the last one, and that the others stay.
 pub fn appends_one()
     ensures { AppendsOne }
-{
-}
+{}

@@ -29,7 +29,7 @@ held_means = record {
 
 -- the value that is found is that of a pair of the key, and where there is none no slot has the key
 value_held : (s : Slots) (k : Key) (v : List ℕ) (l : Option ℕ) → lowest_slot k (bytes_of s) ≡ l → option_map (λ i. slot_value (slot i (bytes_of s))) l ≡ Some v → Held (bytes_of s) k v
-value_held s k v None e h = let z : ◌≡◌ {A = ℕ} 0 1 = cc in absurd (omega arith)
+value_held s k v None e h = absurd cc
 value_held s k v (Some i) e h =
     let l = lowest_some k (bytes_of s) i e in
     let q = has_pair k (slot i (bytes_of s)) l.1 in
@@ -45,7 +45,7 @@ none_held : (s : Slots) (k : Key) (l : Option ℕ) → lowest_slot k (bytes_of s
 none_held s k None e h v held =
     let q = pair_has (slot held.place (bytes_of s)) k v held.pair in
     both_ways _ (lowest_none k (bytes_of s) e held.place held.within) q.0
-none_held s k (Some i) e h v held = let z : ◌≡◌ {A = ℕ} 0 1 = cc in absurd (omega arith)
+none_held s k (Some i) e h v held = absurd cc
 
 pub find_means : FindMeans slots_model
 find_means =

@@ -28,7 +28,7 @@ first_some k n i j bs false e rest h =
     (omega (arith, r.0), omega (arith, r.1), r.2)
 
 some_from : (k : Key) (n i j : ℕ) (bs : List ℕ) → first_slot k n i bs ≡ Some j → (i ≤ j) × (j < i + n) × (slot_has k (slot j bs) ≡ true)
-some_from k zero i j bs h = let z : ◌≡◌ {A = ℕ} 0 1 = cc in absurd (omega arith)
+some_from k zero i j bs h = absurd cc
 some_from k (suc n) i j bs h = first_some k n i j bs (slot_has k (slot i bs)) refl (λ m e. some_from k n m j bs e) h
 
 pub lowest_some : (k : Key) (bs : List ℕ) (j : ℕ) → lowest_slot k bs ≡ Some j → (j < slot_count (length bs)) × (slot_has k (slot j bs) ≡ true)
@@ -37,7 +37,7 @@ lowest_some k bs j h =
     (omega (arith, r.1), r.2)
 
 first_none : (k : Key) (n i : ℕ) (bs : List ℕ) (b : Bool) → cond b (Some i) (first_slot k n (i + 1) bs) ≡ None → (b ≡ false) × (first_slot k n (i + 1) bs ≡ None)
-first_none k n i bs true h = let z : ◌≡◌ {A = ℕ} 0 1 = cc in absurd (omega arith)
+first_none k n i bs true h = absurd cc
 first_none k n i bs false h = (refl, h)
 
 none_step : (k : Key) (n i : ℕ) (bs : List ℕ) (j : ℕ) → i ≤ j → j < i + suc n → (i ≡ j) ⊎ ((i < j) ⊎ (j < i)) → slot_has k (slot i bs) ≡ false → (i + 1 ≤ j → j < i + 1 + n → slot_has k (slot j bs) ≡ false) → slot_has k (slot j bs) ≡ false
@@ -68,8 +68,8 @@ has_pair k s t =
     (ap (λ b. cond b (option_map with-key (slot_key s)) None) p.0 ∙ ap (option_map with-key) e, leb-true (slot_length s) value_room q.1)
 
 pair_from : (s : List ℕ) (k : Key) (v : List ℕ) (b : Bool) (o : Option Key) → cond b (option_map {U = Pair} (λ j. record { key = j; value = slot_value s }) o) None ≡ Some (record { key = k; value = v }) → (b ≡ true) × (o ≡ Some k) × (slot_value s ≡ v)
-pair_from s k v false o h = let z : ◌≡◌ {A = ℕ} 0 1 = cc in absurd (omega arith)
-pair_from s k v true None h = let z : ◌≡◌ {A = ℕ} 0 1 = cc in absurd (omega arith)
+pair_from s k v false o h = absurd cc
+pair_from s k v true None h = absurd cc
 pair_from s k v true (Some j) h =
     let e : ◌≡◌ {A = Pair} (record { key = j; value = slot_value s }) (record { key = k; value = v }) = cc in
     (refl, ap (λ (p : Pair). Some p.key) e, ap (λ (p : Pair). p.value) e)
