@@ -2,7 +2,7 @@ use Rattle.std.proofs.Common.{◌≡◌, ℕ, ◌≤◌, ◌==◌, List, [], len
 use Rattle.keys.specs.Digests.{value_room}
 use Rattle.keys.specs.declared.key.Key.{Key}
 use Rattle.stores.specs.Numbers.{Raised, no_fault, FindNumbers, PutNumbers, refused_unless, padded}
-use Rattle.stores.specs.Model.{Model, FindMeans, FindPost}
+use Rattle.stores.specs.Model.{FindMeans, FindPost}
 use Rattle.stores.specs.LookUps.{found_numbers, found_buffer, LooksUp}
 use Rattle.stores.proofs.Buffers.{blanked, buffer_fits}
 
