@@ -114,10 +114,10 @@ module _ (s t : Log) (k : Key) (v : List ℕ) (r : PutNumbers) where
 
 pub put_means : PutMeans log_model
 put_means = record {
-  answers = λ s t k v r f. put_answers s t k v r f;
-  kept = λ s t k v r f one. put_kept s t k v r f one;
-  nothing_else = λ s t k v r f j w h. put_else s t k v r f j w h;
-  faulted = λ s t k v r f three none. put_faulted s t k v r f three none;
-  own_fault = λ s t k v r f some. put_own s t k v r f some;
+  answers = put_answers;
+  kept = put_kept;
+  nothing_else = put_else;
+  faulted = put_faulted;
+  own_fault = put_own;
   same_faults = λ s t k v r f g. (λ h. h ∙ sym (same_room s t k v r f), λ h. h ∙ same_room s t k v r f);
 }

@@ -2,7 +2,7 @@ use Rattle.std.specs.Prelude.{◌≡◌, ℕ, ◌≤◌, Bool, true, false, List
 use Rattle.keys.specs.Digests.{value_room}
 use Rattle.keys.specs.declared.key.Key.{Key}
 use Rattle.stores.specs.Numbers.{mark_number, Raised, no_fault, PutNumbers}
-use Rattle.stores.specs.Model.{Model}
+use Rattle.stores.specs.Model.{Model, HoldSame}
 use Rattle.stores.specs.LookUps.{LooksUp}
 use Rattle.log_store.specs.declared.log.Log.{Log}
 use Rattle.log_store.specs.Contents.{log_entries, last_value, is_value, has_room, appended, Held}
@@ -53,5 +53,4 @@ log_model = record { holds = λ s. Held (bytes_of s); raises = λ s f. f ≡ no_
 
 -- two logs hold the same pairs
 abbrev pub SamePairs : Log → Log → Type 0
-SamePairs s t =
-    (k : Key) (v : List ℕ) → (Held (bytes_of s) k v → Held (bytes_of t) k v) × (Held (bytes_of t) k v → Held (bytes_of s) k v)
+SamePairs = HoldSame log_model

@@ -4,7 +4,7 @@ use Rattle.keys.specs.Digests.{value_room}
 use Rattle.keys.specs.declared.key.Key.{Key}
 use Rattle.stores.specs.Numbers.{no_fault, PutNumbers}
 use Rattle.stores.specs.LookUps.{LooksUp}
-use Rattle.stores.specs.Model.{Model}
+use Rattle.stores.specs.Model.{Model, HoldSame}
 use Rattle.slots.specs.declared.slots.Slots.{Slots}
 use Rattle.slots.specs.Table.{slot_count, slot, slot_value, lowest_slot, Held, with_slot}
 
@@ -40,11 +40,10 @@ pub record SlotsPuts (s : Slots) (k : Key) (v : List ℕ) (r : PutNumbers) (t : 
 abbrev pub slots_model : Model Slots
 slots_model = record { holds = λ s. Held (bytes_of s); raises = λ s f. ⊥; finds = LooksUp (λ s k. value_found k (bytes_of s)); puts = SlotsPuts }
 
--- stores over the same bytes hold the same pairs
-abbrev pub Reopened : Type 0
-Reopened = (s t : Slots) → bytes_of t ≡ bytes_of s → (k : Key) (v : List ℕ) → (Held (bytes_of s) k v → Held (bytes_of t) k v) × (Held (bytes_of t) k v → Held (bytes_of s) k v)
-
 -- two stores hold the same pairs
 abbrev pub SamePairs : Slots → Slots → Type 0
-SamePairs s t =
-    (k : Key) (v : List ℕ) → (Held (bytes_of s) k v → Held (bytes_of t) k v) × (Held (bytes_of t) k v → Held (bytes_of s) k v)
+SamePairs = HoldSame slots_model
+
+-- stores over the same bytes hold the same pairs
+abbrev pub Reopened : Type 0
+Reopened = (s t : Slots) → bytes_of t ≡ bytes_of s → SamePairs s t
