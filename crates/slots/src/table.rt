@@ -79,8 +79,8 @@ impl<'a> Slot<'a> {
         Key::read(&self.bytes[1..LENGTH_AT])
     }
 
-    #[tactic(auto, using(crate::specs::Pairs::taken_value))]
     /// The value of the pair in the slot, which is at the front of its room; absent where it is empty.
+    #[tactic(auto, using(crate::specs::Pairs::taken_value))]
     pub(crate) fn value(&self) -> Option<&'a [u8]>
         ensures { option_map (λ x. x.now) result ≡ option_map pair_value (read_slot self.now.bytes.now) }
     {

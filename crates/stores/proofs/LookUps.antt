@@ -13,28 +13,22 @@ module _ {S : Type 0} (holds : S → Key → List ℕ → Type 0) (raises : S �
     from_answer o e = (f.answer ∙ ap found_numbers e, f.buffer ∙ ap found_buffer e)
 
     look_answers : (o : Option (List ℕ)) → value s k ≡ o → (1 ≤ r.answer) × (r.answer ≤ 2) × (r.first ≡ no_fault)
-    look_answers None e =
-        let q = (from_answer None e).0 in
-        let a = ap (λ (x : FindNumbers). x.answer) q in
-        (omega arith, omega arith, ap (λ (x : FindNumbers). x.first) q)
-    look_answers (Some v) e =
-        let q = (from_answer (Some v) e).0 in
-        let a = ap (λ (x : FindNumbers). x.answer) q in
-        (omega arith, omega arith, ap (λ (x : FindNumbers). x.first) q)
+    look_answers None e = rw (from_answer None e).0 (omega arith, omega arith, refl)
+    look_answers (Some v) e = rw (from_answer (Some v) e).0 (omega arith, omega arith, refl)
 
     look_found : (o : Option (List ℕ)) → value s k ≡ o → r.answer ≡ 1 → (v : List ℕ) × (holds s k v) × (length v ≡ r.size) × (p ≡ padded v)
-    look_found None e one = let a = ap (λ (x : FindNumbers). x.answer) (from_answer None e).0 in absurd (omega arith)
+    look_found None e one = absurd (omega (arith, rw (from_answer None e).0 at one))
     look_found (Some v) e one =
         let q = from_answer (Some v) e in
-        (v, some-held s k v e, sym (ap (λ (x : FindNumbers). x.size) q.0), q.1)
+        (v, some-held s k v e, rw q.0, q.1)
 
     look_missing : (o : Option (List ℕ)) → value s k ≡ o → r.answer ≡ 2 → (v : List ℕ) → holds s k v → ⊥
     look_missing None e two v h = none-held s k e v h
-    look_missing (Some w) e two v h = let a = ap (λ (x : FindNumbers). x.answer) (from_answer (Some w) e).0 in absurd (omega arith)
+    look_missing (Some w) e two v h = omega (arith, rw (from_answer (Some w) e).0 at two)
 
     look_blanked : (o : Option (List ℕ)) → value s k ≡ o → (r.answer ≡ 1 → ⊥) → (p ≡ padded []) × (r.size ≡ 0)
-    look_blanked None e other = let q = from_answer None e in (q.1, ap (λ (x : FindNumbers). x.size) q.0)
-    look_blanked (Some v) e other = absurd (other (ap (λ (x : FindNumbers). x.answer) (from_answer (Some v) e).0))
+    look_blanked None e other = let q = from_answer None e in (q.1, rw q.0)
+    look_blanked (Some v) e other = absurd (other (rw (from_answer (Some v) e).0))
 
   pub look_up_means : FindMeans {S = S} (record { holds = holds; raises = raises; finds = LooksUp value; puts = puts })
   look_up_means = record {
