@@ -44,7 +44,7 @@ module _ (k : Key) (v rest : List ℕ) (short : length v ≤ value_room) where
       ∙ (ap (λ b. cond b (entry_bytes k v ++ drop (length (entry_bytes k v)) rest) rest) fitting ∙ ap (λ n. cond (leb (entry_size (length v)) (length rest)) (entry_bytes k v ++ drop n rest) rest) (EntriesTrip.sizes k v))
 
   none_by : (b : Bool) (out xs : List ℕ) (n : ℕ) → None ≡ cond b (Some n) None → out ≡ cond b xs rest → (false ≡ b) × (out ≡ rest)
-  none_by true out xs n h e = let z : ◌≡◌ {A = ℕ} 0 1 = cc in absurd (omega arith)
+  none_by true out xs n h e = absurd cc
   none_by false out xs n h e = (refl, e)
 
   pub front_none : (out : List ℕ) → None ≡ entry_front k v rest → out ≡ with_entry k v rest → (false ≡ leb (entry_size (length v)) (length rest)) × (out ≡ rest)
@@ -52,7 +52,7 @@ module _ (k : Key) (v rest : List ℕ) (short : length v ≤ value_room) where
 
   some_by : (b : Bool) (out xs : List ℕ) (m n : ℕ) → Some m ≡ cond b (Some n) None → out ≡ cond b xs rest → (true ≡ b) × (m ≡ n) × (out ≡ xs)
   some_by true out xs m n h e = (refl, cc, e)
-  some_by false out xs m n h e = let z : ◌≡◌ {A = ℕ} 0 1 = cc in absurd (omega arith)
+  some_by false out xs m n h e = absurd cc
 
   written : (out : List ℕ) (m : ℕ) → Some m ≡ entry_front k v rest → out ≡ with_entry k v rest → (true ≡ leb (entry_size (length v)) (length rest)) × (m ≡ entry_size (length v)) × (out ≡ entry_bytes k v ++ drop (entry_size (length v)) rest)
   written out m h e = some_by (leb (entry_size (length v)) (length rest)) out (entry_bytes k v ++ drop (entry_size (length v)) rest) m (entry_size (length v)) (h ∙ front_answer) (e ∙ front_after)

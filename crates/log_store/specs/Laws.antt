@@ -1,4 +1,4 @@
-use Rattle.std.specs.Prelude.{◌≡◌, ℕ, Bool, true, false, cond, ◌⊎◌, List, [], ◌∷◌, ◌++◌, Some, None, Option, ◌≢◌}
+use Rattle.std.specs.Prelude.{◌≡◌, ℕ, Bool, true, false, ◌⊎◌, List, [], ◌∷◌, ◌++◌, Some, None, Option, ◌≢◌}
 use Rattle.std.proofs.Math.Path.{refl, ap, subst}
 use Rattle.std.proofs.Common.{sym, ◌∙◌, arith}
 use Rattle.std.proofs.Math.Logic.{inl, inr}
@@ -13,7 +13,7 @@ use Rattle.lists.proofs.Members.{among_split, among_right}
 use Rattle.entries.specs.Entries.{Logged}
 use Rattle.log_store.specs.declared.log.Log.{Log}
 use Rattle.log_store.specs.Contents.{log_entries, is_value, has_room, appended, Held}
-use Rattle.log_store.specs.Storing.{bytes_of, no_room, value_found, PutDone, LogPuts, log_model}
+use Rattle.log_store.specs.Storing.{bytes_of, no_room, value_found, put_by, LogPuts, log_model}
 use Rattle.log_store.specs.Lasts.{last_among, last_none}
 use Rattle.log_store.specs.Appends.{appended_entries, entries_short}
 
@@ -37,12 +37,6 @@ value_is v (Some w) t = ap Some ((bytes_eq-Decides w v).0 t)
 kept : PutNumbers
 kept = record { answer = 1; first = no_fault }
 
--- what a put comes to, by its two tests
-unfoldable pub done : Log → Key → List ℕ → Bool → Bool → PutDone
-done s k v same fits =
-    cond same (record { answer = record { answer = 1; first = no_fault }; bytes = bytes_of s })
-    (cond fits (record { answer = record { answer = 1; first = no_fault }; bytes = appended k v (bytes_of s) }) (record { answer = record { answer = 3; first = no_room s }; bytes = bytes_of s }))
-
 -- the three ways of a put: the value was there, it was appended, there was no room
 Ways : Log → Key → List ℕ → PutNumbers → Log → Type 0
 Ways s k v r t =
@@ -50,15 +44,14 @@ Ways s k v r t =
     ⊎ (((r ≡ kept) × (bytes_of t ≡ appended k v (bytes_of s))) ⊎ ((r ≡ record { answer = 3; first = no_room s }) × (bytes_of t ≡ bytes_of s)))
 
 module _ (s t : Log) (k : Key) (v : List ℕ) (r : PutNumbers) where
-  ways_by : (same fits : Bool) → is_value v (value_found s k) ≡ same → r ≡ (done s k v same fits).answer → bytes_of t ≡ (done s k v same fits).bytes → Ways s k v r t
-  unfolding Ways done kept
+  ways_by : (same fits : Bool) → is_value v (value_found s k) ≡ same → r ≡ (put_by s k v same fits).answer → bytes_of t ≡ (put_by s k v same fits).bytes → Ways s k v r t
+  unfolding Ways kept
   ways_by true fits e a b = inl (a, b, value_is v (value_found s k) e)
   ways_by false true e a b = inr (inl (a, b))
   ways_by false false e a b = inr (inr (a, b))
 
   module _ (f : LogPuts s k v r t) where
     ways : Ways s k v r t
-    unfolding done
     ways = ways_by (is_value v (value_found s k)) (has_room v (bytes_of s)) refl f.answer f.bytes
 
     added : bytes_of t ≡ appended k v (bytes_of s) → log_entries (bytes_of t) ≡ log_entries (bytes_of s) ++ record { key = k; value = v } ∷ []
@@ -121,10 +114,10 @@ module _ (s t : Log) (k : Key) (v : List ℕ) (r : PutNumbers) where
 
 pub put_means : PutMeans log_model
 put_means = record {
-  answers = λ s t k v r f. put_answers s t k v r f;
-  kept = λ s t k v r f one. put_kept s t k v r f one;
-  nothing_else = λ s t k v r f j w h. put_else s t k v r f j w h;
-  faulted = λ s t k v r f three none. put_faulted s t k v r f three none;
-  own_fault = λ s t k v r f some. put_own s t k v r f some;
+  answers = put_answers;
+  kept = put_kept;
+  nothing_else = put_else;
+  faulted = put_faulted;
+  own_fault = put_own;
   same_faults = λ s t k v r f g. (λ h. h ∙ sym (same_room s t k v r f), λ h. h ∙ same_room s t k v r f);
 }

@@ -1,8 +1,8 @@
-use Rattle.std.specs.Prelude.{◌≡◌, ℕ, ◌≤◌, cond, List, length, vec_items, Option}
+use Rattle.std.specs.Prelude.{◌≡◌, ℕ, ◌≤◌, Bool, true, false, List, length, vec_items, Option}
 use Rattle.keys.specs.Digests.{value_room}
 use Rattle.keys.specs.declared.key.Key.{Key}
 use Rattle.stores.specs.Numbers.{mark_number, Raised, no_fault, PutNumbers}
-use Rattle.stores.specs.Model.{Model}
+use Rattle.stores.specs.Model.{Model, HoldSame}
 use Rattle.stores.specs.LookUps.{LooksUp}
 use Rattle.log_store.specs.declared.log.Log.{Log}
 use Rattle.log_store.specs.Contents.{log_entries, last_value, is_value, has_room, appended, Held}
@@ -32,10 +32,13 @@ pub record PutDone : Type 0 where
   pub bytes : List ℕ
 
 -- a put is kept with nothing written where the last entry of the key has that value, else with an entry appended; without room for the entry it fails and writes nothing
+abbrev pub put_by : Log → Key → List ℕ → Bool → Bool → PutDone
+put_by s k v true fits = record { answer = record { answer = 1; first = no_fault }; bytes = bytes_of s }
+put_by s k v false true = record { answer = record { answer = 1; first = no_fault }; bytes = appended k v (bytes_of s) }
+put_by s k v false false = record { answer = record { answer = 3; first = no_room s }; bytes = bytes_of s }
+
 abbrev pub put_done : Log → Key → List ℕ → PutDone
-put_done s k v =
-    cond (is_value v (value_found s k)) (record { answer = record { answer = 1; first = no_fault }; bytes = bytes_of s })
-    (cond (has_room v (bytes_of s)) (record { answer = record { answer = 1; first = no_fault }; bytes = appended k v (bytes_of s) }) (record { answer = record { answer = 3; first = no_room s }; bytes = bytes_of s }))
+put_done s k v = put_by s k v (is_value v (value_found s k)) (has_room v (bytes_of s))
 
 -- a put of a log
 pub record LogPuts (s : Log) (k : Key) (v : List ℕ) (r : PutNumbers) (t : Log) : Type 0 where
@@ -50,5 +53,4 @@ log_model = record { holds = λ s. Held (bytes_of s); raises = λ s f. f ≡ no_
 
 -- two logs hold the same pairs
 abbrev pub SamePairs : Log → Log → Type 0
-SamePairs s t =
-    (k : Key) (v : List ℕ) → (Held (bytes_of s) k v → Held (bytes_of t) k v) × (Held (bytes_of t) k v → Held (bytes_of s) k v)
+SamePairs = HoldSame log_model

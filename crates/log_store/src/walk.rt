@@ -1,6 +1,6 @@
 //! Walking over the entries of a log, and appending one.
 
-ghost use Rattle.std.specs.Prelude.{◌≡◌, ◌≤◌, length, if◌then◌else◌, nat_le};
+ghost use Rattle.std.specs.Prelude.{◌≡◌, ◌≤◌, length, if◌then◌else◌, is_some, nat_le};
 ghost use Rattle.std.specs.Option.{option_map};
 ghost use Rattle.keys.specs.Digests.{value_room};
 ghost use Rattle.entries.specs.Blocks.{entry_size};
@@ -15,14 +15,14 @@ use keys::Key;
 pub(crate) struct Met<'a> {
     /// The last entry of the key.
     pub(crate) last: Option<Entry<'a>>,
-    /// The bytes from the first place where no whole entry begins.
-    pub(crate) rest: &'a [u8],
+    /// The first place where no whole entry begins.
+    pub(crate) end: usize,
 }
 
 /// Walks over the entries of a log, and keeps the last of a key.
 pub(crate) fn walk<'a>(bytes: &'a [u8], key: &Key) -> Met<'a>
     ensures last { option_map value_of result.last ≡ last_value key.now (log_entries bytes.now) }
-    ensures rest { result.rest.now ≡ log_rest bytes.now }
+    ensures end { result.end ≡ log_end bytes.now }
 {
     let mut rest = bytes;
     let mut last = None;
@@ -32,54 +32,50 @@ pub(crate) fn walk<'a>(bytes: &'a [u8], key: &Key) -> Met<'a>
         }
         rest = entry.rest();
     }
-    Met { last, rest }
-}
-
-/// Whether the last entry of a key has a value.
-pub(crate) fn has_last(met: &Met<'_>, value: &[u8]) -> bool
-    ensures { result ≡ is_value value.now (option_map value_of met.now.last) }
-{
-    match met.last {
-        Some(entry) => entry.has_value(value),
-        None => false,
+    Met {
+        last,
+        end: bytes.len() - rest.len(),
     }
 }
 
-/// Writes an entry at the front of some bytes and a zero behind it, and answers whether it fits; if not, nothing is written.
-fn put_first(rest: &mut [u8], key: &Key, value: &[u8]) -> bool
+impl Met<'_> {
+    /// Whether the last entry of the key has a value.
+    pub(crate) fn ends_with(&self, value: &[u8]) -> bool
+        ensures { result ≡ is_value value.now (option_map value_of self.now.last) }
+    {
+        self.last.is_some_and(|entry| entry.has_value(value))
+    }
+}
+
+/// Writes an entry at the front of some bytes and a zero behind it; absent where it does not fit, and nothing is written.
+fn put_first(rest: &mut [u8], key: &Key, value: &[u8]) -> Option<()>
     requires { length value.now ≤ value_room }
-    ensures answer { result ≡ nat_le (entry_size (length value.now)) (length rest.old) }
-    ensures after { rest.new ≡ (if result then with_entry_first key.now value.now rest.old else rest.old) }
+    ensures answer { is_some result ≡ nat_le (entry_size (length value.now)) (length rest.old) }
+    ensures after { rest.new ≡ (if is_some result then with_entry_first key.now value.now rest.old else rest.old) }
 {
-    let Some(size) = write_entry(key, value, rest) else {
-        return false;
-    };
+    let size = write_entry(key, value, rest)?;
     if size < rest.len() {
         rest[size] = 0;
     }
-    true
+    Some(())
 }
 
-/// Appends an entry at the end of a log, and answers whether it fits; if not, nothing is written.
-pub(crate) fn append(bytes: &mut [u8], end: usize, key: &Key, value: &[u8]) -> bool
+/// Appends an entry at the end of a log; absent where it does not fit, and nothing is written.
+pub(crate) fn append(bytes: &mut [u8], end: usize, key: &Key, value: &[u8]) -> Option<()>
     requires short { length value.now ≤ value_room }
     requires place { end ≡ log_end bytes.old }
-    ensures answer { result ≡ has_room value.now bytes.old }
-    ensures after { bytes.new ≡ (if result then appended key.now value.now bytes.old else bytes.old) }
+    ensures answer { is_some result ≡ has_room value.now bytes.old }
+    ensures after { bytes.new ≡ (if is_some result then appended key.now value.now bytes.old else bytes.old) }
 {
     put_first(&mut bytes[end..], key, value)
 }
 
 /// Carries the theorem that entries written one after another read back, and that no other bytes read as them.
-pub fn logs_round_trip() -> u8
+pub fn logs_round_trip()
     ensures { LogsRoundTrip }
-{
-    0
-}
+{}
 
 /// Carries the theorem that an appended entry becomes the last one, and that the others stay.
-pub fn appends_one() -> u8
+pub fn appends_one()
     ensures { AppendsOne }
-{
-    0
-}
+{}

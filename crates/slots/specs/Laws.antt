@@ -3,14 +3,14 @@ use Rattle.std.proofs.Common.{sym, ap, subst, ◌∙◌, inl, inr, arith}
 use Rattle.std.specs.Option.{option_map, unwrap_or}
 use Rattle.std.proofs.lemmas.List.{length-take}
 use Rattle.std.proofs.lemmas.Bool.{both_ways, cases_order}
+use Rattle.keys.specs.Digests.{value_room}
 use Rattle.keys.specs.declared.key.Key.{Key}
-use Rattle.stores.specs.Numbers.{FindNumbers, PutNumbers}
-use Rattle.stores.specs.LookUps.{LooksUp}
+use Rattle.stores.specs.Numbers.{PutNumbers}
 use Rattle.stores.proofs.LookUps.{look_up_means}
 use Rattle.stores.specs.Model.{HeldMeans, FindMeans, PutMeans}
 use Rattle.slots.specs.declared.slots.Slots.{Slots}
 use Rattle.slots.specs.Table.{slot_size, slot_count, slot, Pair, slot_length, slot_value, read_slot, lowest_slot, slot_bytes, Held}
-use Rattle.slots.specs.Storing.{bytes_of, value_found, SlotsFinds, put_place, SlotsPuts, slots_model}
+use Rattle.slots.specs.Storing.{bytes_of, value_found, put_place, SlotsPuts, slots_model}
 use Rattle.slots.specs.Lowest.{slot-within}
 use Rattle.slots.specs.Pairs.{lowest_some, lowest_none, has_pair, pair_has, read_back, length-with_slot, slot_same, slot-before, slot_behind}
 
@@ -27,13 +27,9 @@ held_means = record {
   causes = λ s f h. absurd h;
 }
 
--- a find of slots looks up the value of the lowest slot of the key
-pub looks_up : (s t : Slots) (k : Key) (r : FindNumbers) (p : List ℕ) → SlotsFinds s k r p t → LooksUp (λ u j. value_found j (bytes_of u)) s k r p t
-looks_up s t k r p f = record { answer = f.answer; buffer = f.buffer; same = f.same }
-
 -- the value that is found is that of a pair of the key, and where there is none no slot has the key
 value_held : (s : Slots) (k : Key) (v : List ℕ) (l : Option ℕ) → lowest_slot k (bytes_of s) ≡ l → option_map (λ i. slot_value (slot i (bytes_of s))) l ≡ Some v → Held (bytes_of s) k v
-value_held s k v None e h = let z : ◌≡◌ {A = ℕ} 0 1 = cc in absurd (omega arith)
+value_held s k v None e h = absurd cc
 value_held s k v (Some i) e h =
     let l = lowest_some k (bytes_of s) i e in
     let q = has_pair k (slot i (bytes_of s)) l.1 in
@@ -41,27 +37,20 @@ value_held s k v (Some i) e h =
     let pair_of : List ℕ → Pair = λ x. record { key = k; value = x } in
     record { place = i; within = l.0; pair = q.0 ∙ ap (λ x. Some (pair_of x)) same }
 
+-- it has at most its room
+pub found_short : (s : Slots) (k : Key) (v : List ℕ) → value_found k (bytes_of s) ≡ Some v → length v ≤ value_room
+found_short s k v h = held_means.short s k v (value_held s k v (lowest_slot k (bytes_of s)) refl h)
+
 none_held : (s : Slots) (k : Key) (l : Option ℕ) → lowest_slot k (bytes_of s) ≡ l → option_map (λ i. slot_value (slot i (bytes_of s))) l ≡ None → (v : List ℕ) → Held (bytes_of s) k v → ⊥
 none_held s k None e h v held =
     let q = pair_has (slot held.place (bytes_of s)) k v held.pair in
     both_ways _ (lowest_none k (bytes_of s) e held.place held.within) q.0
-none_held s k (Some i) e h v held = let z : ◌≡◌ {A = ℕ} 0 1 = cc in absurd (omega arith)
+none_held s k (Some i) e h v held = absurd cc
 
 pub find_means : FindMeans slots_model
 find_means =
-    let g =
     look_up_means slots_model.holds slots_model.raises SlotsPuts (λ s k. value_found k (bytes_of s))
-    (λ s k v h. value_held s k v (lowest_slot k (bytes_of s)) refl h) (λ s k h. none_held s k (lowest_slot k (bytes_of s)) refl h) in
-    record {
-      answers = λ s t k r p f. g.answers s t k r p (looks_up s t k r p f);
-      found = λ s t k r p f. g.found s t k r p (looks_up s t k r p f);
-      missing = λ s t k r p f. g.missing s t k r p (looks_up s t k r p f);
-      blanked = λ s t k r p f. g.blanked s t k r p (looks_up s t k r p f);
-      nothing_new = λ s t k r p f. g.nothing_new s t k r p (looks_up s t k r p f);
-      faulted = λ s t k r p f. g.faulted s t k r p (looks_up s t k r p f);
-      own_fault = λ s t k r p f. g.own_fault s t k r p (looks_up s t k r p f);
-      same_faults = λ s t k r p f. g.same_faults s t k r p (looks_up s t k r p f);
-    }
+    (λ s k v h. value_held s k v (lowest_slot k (bytes_of s)) refl h) (λ s k h. none_held s k (lowest_slot k (bytes_of s)) refl h)
 
 place_of : (s : Slots) (k : Key) (l : Option ℕ) → lowest_slot k (bytes_of s) ≡ l → unwrap_or l s.cursor < slot_count (length (bytes_of s))
 place_of s k None e =

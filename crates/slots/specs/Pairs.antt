@@ -6,7 +6,7 @@ use Rattle.std.proofs.Math.Nat.{mul-le-mul_right}
 use Rattle.std.specs.Option.{option_map, unwrap_or}
 use Rattle.std.proofs.lemmas.List.Edits.{drop-paste, length-paste}
 use Rattle.std.proofs.lemmas.List.{append_assoc, length-take-le, length-drop, take_all, take_at, take-take, take-append-le, drop_at, drop-drop, drop-append-le, drop-take}
-use Rattle.std.proofs.lemmas.Bool.{and_from, and_parts, eq-eqb, le-leb, leb-true, lt-ltb, le-ltb, cond-true, cond-false, both_ways, cases_order}
+use Rattle.std.proofs.lemmas.Bool.{and_from, and_parts, eq-eqb, le-leb, leb-true, lt-ltb, cond-true, both_ways, cases_order}
 use Rattle.numbers.specs.BigEndian.{big_endian, read_big_endian}
 use Rattle.numbers.proofs.Trips as NumbersTrip
 use Rattle.keys.specs.Digests.{value_room}
@@ -17,7 +17,6 @@ use Rattle.keys.specs.SameKeys.{same_key_decides}
 use Rattle.stores.specs.Numbers.{padded}
 use Rattle.slots.specs.Table.{slot_size, slot_count, slot, Pair, slot_length, is_taken, slot_value, slot_key, read_slot, pair_at, pair_value, slot_bytes, is_key, slot_has, first_slot, lowest_slot, with_slot}
 use Rattle.slots.specs.Writes.{length-slot_bytes}
-use Rattle.slots.specs.Lowest.{slot-within}
 
 -- the slot that is answered has the key, and where none is answered none has it
 first_some : (k : Key) (n i j : ℕ) (bs : List ℕ) (b : Bool) → b ≡ slot_has k (slot i bs) → ((m : ℕ) → first_slot k n m bs ≡ Some j → (m ≤ j) × (j < m + n) × (slot_has k (slot j bs) ≡ true)) → cond b (Some i) (first_slot k n (i + 1) bs) ≡ Some j → (i ≤ j) × (j < i + suc n) × (slot_has k (slot j bs) ≡ true)
@@ -29,7 +28,7 @@ first_some k n i j bs false e rest h =
     (omega (arith, r.0), omega (arith, r.1), r.2)
 
 some_from : (k : Key) (n i j : ℕ) (bs : List ℕ) → first_slot k n i bs ≡ Some j → (i ≤ j) × (j < i + n) × (slot_has k (slot j bs) ≡ true)
-some_from k zero i j bs h = let z : ◌≡◌ {A = ℕ} 0 1 = cc in absurd (omega arith)
+some_from k zero i j bs h = absurd cc
 some_from k (suc n) i j bs h = first_some k n i j bs (slot_has k (slot i bs)) refl (λ m e. some_from k n m j bs e) h
 
 pub lowest_some : (k : Key) (bs : List ℕ) (j : ℕ) → lowest_slot k bs ≡ Some j → (j < slot_count (length bs)) × (slot_has k (slot j bs) ≡ true)
@@ -38,7 +37,7 @@ lowest_some k bs j h =
     (omega (arith, r.1), r.2)
 
 first_none : (k : Key) (n i : ℕ) (bs : List ℕ) (b : Bool) → cond b (Some i) (first_slot k n (i + 1) bs) ≡ None → (b ≡ false) × (first_slot k n (i + 1) bs ≡ None)
-first_none k n i bs true h = let z : ◌≡◌ {A = ℕ} 0 1 = cc in absurd (omega arith)
+first_none k n i bs true h = absurd cc
 first_none k n i bs false h = (refl, h)
 
 none_step : (k : Key) (n i : ℕ) (bs : List ℕ) (j : ℕ) → i ≤ j → j < i + suc n → (i ≡ j) ⊎ ((i < j) ⊎ (j < i)) → slot_has k (slot i bs) ≡ false → (i + 1 ≤ j → j < i + 1 + n → slot_has k (slot j bs) ≡ false) → slot_has k (slot j bs) ≡ false
@@ -69,8 +68,8 @@ has_pair k s t =
     (ap (λ b. cond b (option_map with-key (slot_key s)) None) p.0 ∙ ap (option_map with-key) e, leb-true (slot_length s) value_room q.1)
 
 pair_from : (s : List ℕ) (k : Key) (v : List ℕ) (b : Bool) (o : Option Key) → cond b (option_map {U = Pair} (λ j. record { key = j; value = slot_value s }) o) None ≡ Some (record { key = k; value = v }) → (b ≡ true) × (o ≡ Some k) × (slot_value s ≡ v)
-pair_from s k v false o h = let z : ◌≡◌ {A = ℕ} 0 1 = cc in absurd (omega arith)
-pair_from s k v true None h = let z : ◌≡◌ {A = ℕ} 0 1 = cc in absurd (omega arith)
+pair_from s k v false o h = absurd cc
+pair_from s k v true None h = absurd cc
 pair_from s k v true (Some j) h =
     let e : ◌≡◌ {A = Pair} (record { key = j; value = slot_value s }) (record { key = k; value = v }) = cc in
     (refl, ap (λ (p : Pair). Some p.key) e, ap (λ (p : Pair). p.value) e)
@@ -82,21 +81,21 @@ pair_has s k v h =
     let same = (same_key_decides k k).1 refl in
     (and_from _ _ p.0 (ap (is_key k) p.1 ∙ same), p.2, leb-true (slot_length s) value_room q.1)
 
--- behind the last slot there is no pair, and a slot that is taken has its value
-pub pair_behind : (i : ℕ) (bs : List ℕ) → slot_count (length bs) ≤ i → pair_at i bs ≡ None
-pair_behind i bs h = cond-false (nat_lt i (slot_count (length bs))) (read_slot (slot i bs)) None (le-ltb i (slot_count (length bs)) h)
-
-pub pair_value_at : (i : ℕ) (bs : List ℕ) → i < slot_count (length bs) → is_taken (slot i bs) ≡ true → option_map pair_value (pair_at i bs) ≡ Some (slot_value (slot i bs))
-pair_value_at i bs h t =
-    let s = slot i bs in
-    let w = slot-within (length bs) i h in
-    let d = length-drop (i * slot_size) bs in
-    let l : length s ≡ slot_size = length-take-le slot_size (drop (i * slot_size) bs) (omega arith) in
-    let m = length-drop 1 s in
+-- a slot that is taken has its value
+pub taken_value : (s : List ℕ) → length s ≡ slot_size → is_taken s ≡ true → option_map pair_value (read_slot s) ≡ Some (slot_value s)
+taken_value s l t =
+    let d = length-drop 1 s in
     let k : length (take key_size (drop 1 s)) ≡ key_size = length-take-le key_size (drop 1 s) (omega arith) in
     let r = cond-true (length (take key_size (drop 1 s)) == key_size) _ None (eq-eqb (length (take key_size (drop 1 s))) key_size k) in
     let with-key : Key → Pair = λ j. record { key = j; value = slot_value s } in
-    ap (option_map pair_value) (cond-true (nat_lt i (slot_count (length bs))) (read_slot s) None (lt-ltb i (slot_count (length bs)) h) ∙ (cond-true (is_taken s) (option_map with-key (slot_key s)) None t ∙ ap (option_map with-key) r))
+    ap (option_map pair_value) (cond-true (is_taken s) (option_map with-key (slot_key s)) None t ∙ ap (option_map with-key) r)
+
+-- the value that is found is that of the pair in the lowest slot
+pub found_value : (k : Key) (bs : List ℕ) (i : ℕ) → lowest_slot k bs ≡ Some i → option_map pair_value (pair_at i bs) ≡ option_map (λ j. slot_value (slot j bs)) (lowest_slot k bs)
+found_value k bs i e =
+    let l = lowest_some k bs i e in
+    ap (option_map pair_value) (cond-true (nat_lt i (slot_count (length bs))) (read_slot (slot i bs)) None (lt-ltb i (slot_count (length bs)) l.0) ∙ (has_pair k (slot i bs) l.1).0)
+    ∙ sym (ap (option_map (λ j. slot_value (slot j bs))) e)
 
 -- a pair reads back from its slot
 pub read_back : (k : Key) (v : List ℕ) → length v ≤ value_room → read_slot (slot_bytes k v) ≡ Some (record { key = k; value = v })

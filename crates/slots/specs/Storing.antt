@@ -1,9 +1,10 @@
-use Rattle.std.specs.Prelude.{◌≡◌, ℕ, ◌+◌, ◌≤◌, cond, List, [], length, is_some, Some, None, vec_items, Option, ◌==◌}
+use Rattle.std.specs.Prelude.{◌≡◌, ℕ, ◌+◌, ◌≤◌, cond, List, length, is_some, vec_items, Option, ◌==◌}
 use Rattle.std.specs.Option.{option_map, unwrap_or}
 use Rattle.keys.specs.Digests.{value_room}
 use Rattle.keys.specs.declared.key.Key.{Key}
-use Rattle.stores.specs.Numbers.{no_fault, FindNumbers, PutNumbers, padded}
-use Rattle.stores.specs.Model.{Model}
+use Rattle.stores.specs.Numbers.{no_fault, PutNumbers}
+use Rattle.stores.specs.LookUps.{LooksUp}
+use Rattle.stores.specs.Model.{Model, HoldSame}
 use Rattle.slots.specs.declared.slots.Slots.{Slots}
 use Rattle.slots.specs.Table.{slot_count, slot, slot_value, lowest_slot, Held, with_slot}
 
@@ -14,21 +15,6 @@ bytes_of s = vec_items s.bytes
 -- the value in the lowest slot of a key
 abbrev pub value_found : Key → List ℕ → Option (List ℕ)
 value_found k bs = option_map (λ i. slot_value (slot i bs)) (lowest_slot k bs)
-
--- what a find answers, and what its buffer then has
-abbrev pub found_numbers : Option (List ℕ) → FindNumbers
-found_numbers None = record { answer = 2; size = 0; first = no_fault }
-found_numbers (Some v) = record { answer = 1; size = length v; first = no_fault }
-
-abbrev pub found_buffer : Option (List ℕ) → List ℕ
-found_buffer None = padded []
-found_buffer (Some v) = padded v
-
--- a find answers from the lowest slot of the key, and changes nothing
-pub record SlotsFinds (s : Slots) (k : Key) (r : FindNumbers) (p : List ℕ) (t : Slots) : Type 0 where
-  pub answer : r ≡ found_numbers (value_found k (bytes_of s))
-  pub buffer : p ≡ found_buffer (value_found k (bytes_of s))
-  pub same : t ≡ s
 
 -- the slot that a put overwrites: the lowest of the key, else the one under the cursor
 abbrev pub put_place : Key → Slots → ℕ
@@ -50,15 +36,14 @@ pub record SlotsPuts (s : Slots) (k : Key) (v : List ℕ) (r : PutNumbers) (t : 
   pub bytes : bytes_of t ≡ with_slot (put_place k s) k v (bytes_of s)
   pub cursor : t.cursor ≡ next_cursor k s
 
--- the pairs are those of the slots, and no fault is raised
+-- the pairs are those of the slots, a find looks up the value in the lowest slot of the key, and no fault is raised
 abbrev pub slots_model : Model Slots
-slots_model = record { holds = λ s. Held (bytes_of s); raises = λ s f. ⊥; finds = SlotsFinds; puts = SlotsPuts }
-
--- stores over the same bytes hold the same pairs
-abbrev pub Reopened : Type 0
-Reopened = (s t : Slots) → bytes_of t ≡ bytes_of s → (k : Key) (v : List ℕ) → (Held (bytes_of s) k v → Held (bytes_of t) k v) × (Held (bytes_of t) k v → Held (bytes_of s) k v)
+slots_model = record { holds = λ s. Held (bytes_of s); raises = λ s f. ⊥; finds = LooksUp (λ s k. value_found k (bytes_of s)); puts = SlotsPuts }
 
 -- two stores hold the same pairs
 abbrev pub SamePairs : Slots → Slots → Type 0
-SamePairs s t =
-    (k : Key) (v : List ℕ) → (Held (bytes_of s) k v → Held (bytes_of t) k v) × (Held (bytes_of t) k v → Held (bytes_of s) k v)
+SamePairs = HoldSame slots_model
+
+-- stores over the same bytes hold the same pairs
+abbrev pub Reopened : Type 0
+Reopened = (s t : Slots) → bytes_of t ≡ bytes_of s → SamePairs s t

@@ -30,6 +30,10 @@ slot_count n = min (n / slot_size) slot_most
 abbrev pub slot : ℕ → List ℕ → List ℕ
 slot i bs = take slot_size (drop (i * slot_size) bs)
 
+-- the slot of that number, absent behind the last
+abbrev pub slot_at : ℕ → List ℕ → Option (List ℕ)
+slot_at i bs = cond (nat_lt i (slot_count (length bs))) (Some (slot i bs)) None
+
 -- a key and its value
 pub record Pair : Type 0 where
   pub key : Key

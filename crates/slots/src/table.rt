@@ -1,9 +1,10 @@
 //! The table of slots: reading and writing one, and the lowest slot of a key.
 
-ghost use Rattle.std.specs.Prelude.{◌≡◌, ◌+◌, ◌*◌, ◌≤◌, length};
+ghost use Rattle.std.specs.Prelude.{◌≡◌, ◌+◌, ◌*◌, ◌≤◌, false, length};
+ghost use Rattle.std.specs.Option.{option_map, option_map_or};
 ghost use Rattle.keys.specs.Digests.{value_room};
 ghost use Rattle.stores.specs.Numbers.{padded};
-ghost use Rattle.slots.specs.Table.{slot_size, slot_count, slot, slot_length, slot_value, slot_key, slot_bytes, with_slot, is_taken, is_damaged, slot_has, lowest_slot};
+ghost use Rattle.slots.specs.Table.{slot_size, slot_count, slot_at, slot_length, slot_bytes, with_slot, read_slot, pair_key, pair_value, is_taken, is_damaged, slot_has, lowest_slot};
 
 use keys::Key;
 use numbers::{read_number, write_number};
@@ -27,96 +28,101 @@ pub(crate) fn slot_count(bytes: usize) -> usize
     (bytes / SLOT).min(MOST)
 }
 
-/// The bytes of a slot.
-pub(crate) fn slot(bytes: &[u8], i: usize) -> &[u8]
-    requires { i * slot_size + slot_size ≤ length bytes.now }
-    ensures value { result.now ≡ slot i bytes.now }
-    ensures long { length result.now ≡ slot_size }
-{
-    &bytes[i * SLOT..i * SLOT + SLOT]
+/// A slot, borrowed from the bytes of its table.
+#[derive(Clone, Copy)]
+pub(crate) struct Slot<'a> {
+    bytes: &'a [u8],
+    ghost whole: { length bytes.now ≡ slot_size },
 }
 
-/// The length that a slot names.
-fn slot_length(slot: &[u8]) -> u64
-    requires { length slot.now ≡ slot_size }
-    ensures { result ≡ slot_length slot.now }
-{
-    read_number(&slot[LENGTH_AT..VALUE_AT]).unwrap_or(0)
-}
-
-/// Whether a slot is taken.
-pub(crate) fn is_taken(slot: &[u8]) -> bool
-    requires { length slot.now ≡ slot_size }
-    ensures { result ≡ is_taken slot.now }
-{
-    slot[0] == 1 && slot_length(slot) <= VALUE_ROOM as u64
-}
-
-/// Whether a slot is empty though its flag is not 0.
-pub(crate) fn is_damaged(slot: &[u8]) -> bool
-    requires { length slot.now ≡ slot_size }
-    ensures { result ≡ is_damaged slot.now }
-{
-    slot[0] != 0 && !is_taken(slot)
-}
-
-/// The key of a slot.
-pub(crate) fn slot_key(slot: &[u8]) -> Option<Key>
-    requires { length slot.now ≡ slot_size }
-    ensures { result ≡ slot_key slot.now }
-{
-    Key::read(&slot[1..LENGTH_AT])
-}
-
-/// The value at the front of a slot's room.
-pub(crate) fn slot_value(slot: &[u8]) -> &[u8]
-    requires whole { length slot.now ≡ slot_size }
-    requires short { slot_length slot.now ≤ value_room }
-    ensures { result.now ≡ slot_value slot.now }
-{
-    let size = slot_length(slot) as usize;
-    &slot[VALUE_AT..VALUE_AT + size]
-}
-
-/// Whether a slot has a pair of a key.
-fn slot_has(slot: &[u8], key: &Key) -> bool
-    requires { length slot.now ≡ slot_size }
-    ensures { result ≡ slot_has key.now slot.now }
-{
-    if !is_taken(slot) {
-        return false;
+impl<'a> Slot<'a> {
+    /// The slot of that number; absent behind the last.
+    pub(crate) fn at(bytes: &'a [u8], i: usize) -> Option<Slot<'a>>
+        ensures { option_map (λ s. s.bytes.now) result ≡ slot_at i bytes.now }
+    {
+        if i >= slot_count(bytes.len()) {
+            return None;
+        }
+        Some(Slot {
+            bytes: &bytes[i * SLOT..i * SLOT + SLOT],
+        })
     }
-    match slot_key(slot) {
-        Some(own) => own == *key,
-        None => false,
+
+    /// The length that the slot names.
+    fn length(&self) -> u64
+        ensures { result ≡ slot_length self.now.bytes.now }
+    {
+        read_number(&self.bytes[LENGTH_AT..VALUE_AT]).unwrap_or(0)
     }
+
+    /// Whether the slot is taken.
+    fn is_taken(&self) -> bool
+        ensures { result ≡ is_taken self.now.bytes.now }
+    {
+        self.bytes[0] == 1 && self.length() <= VALUE_ROOM as u64
+    }
+
+    /// Whether the slot is empty though its flag is not 0.
+    pub(crate) fn is_damaged(&self) -> bool
+        ensures { result ≡ is_damaged self.now.bytes.now }
+    {
+        self.bytes[0] != 0 && !self.is_taken()
+    }
+
+    /// The key of the pair in the slot; absent where it is empty.
+    pub(crate) fn key(&self) -> Option<Key>
+        ensures { result ≡ option_map pair_key (read_slot self.now.bytes.now) }
+    {
+        if !self.is_taken() {
+            return None;
+        }
+        Key::read(&self.bytes[1..LENGTH_AT])
+    }
+
+    /// The value of the pair in the slot, which is at the front of its room; absent where it is empty.
+    #[tactic(auto, using(crate::specs::Pairs::taken_value))]
+    pub(crate) fn value(&self) -> Option<&'a [u8]>
+        ensures { option_map (λ x. x.now) result ≡ option_map pair_value (read_slot self.now.bytes.now) }
+    {
+        if !self.is_taken() {
+            return None;
+        }
+        let size = self.length() as usize;
+        Some(&self.bytes[VALUE_AT..VALUE_AT + size])
+    }
+
+    /// Whether the slot has a pair of a key.
+    fn has(&self, key: &Key) -> bool
+        ensures { result ≡ slot_has key.now self.now.bytes.now }
+    {
+        self.key().is_some_and(|own| own == *key)
+    }
+}
+
+/// Whether the slot of that number is there and has a pair of a key.
+fn slot_has(bytes: &[u8], i: usize, key: &Key) -> bool
+    ensures { result ≡ option_map_or (slot_has key.now) (slot_at i bytes.now) false }
+{
+    Slot::at(bytes, i).is_some_and(|slot| slot.has(key))
 }
 
 /// The lowest slot that has a pair of a key.
 pub(crate) fn lowest_slot(bytes: &[u8], key: &Key) -> Option<usize>
     ensures { result ≡ lowest_slot key.now bytes.now }
 {
-    for i in 0..slot_count(bytes.len()) {
-        if slot_has(slot(bytes, i), key) {
-            return Some(i);
-        }
-    }
-    None
+    (0..slot_count(bytes.len())).find(|i| slot_has(bytes, *i, key))
 }
 
-/// Fills a buffer with the value of a slot and zeros behind it, and answers the value's length.
-pub(crate) fn fill_from(bytes: &[u8], i: usize, buffer: &mut [u8]) -> usize
-    requires within { i * slot_size + slot_size ≤ length bytes.now }
-    requires short { slot_length (slot i bytes.now) ≤ value_room }
-    requires room { length buffer.old ≡ value_room }
-    ensures size { result ≡ slot_length (slot i bytes.now) }
-    ensures after { buffer.new ≡ padded (slot_value (slot i bytes.now)) }
+/// Fills the room of a value with one, and zeros behind it.
+#[tactic(auto, unfolding(stores::specs::Numbers::padded))]
+pub(crate) fn fill(room: &mut [u8], value: &[u8])
+    requires room { length room.old ≡ value_room }
+    requires short { length value.now ≤ value_room }
+    ensures { room.new ≡ padded value.now }
 {
-    let slot = slot(bytes, i);
-    let value = slot_value(slot);
-    blank(buffer);
-    buffer[0..value.len()].copy_from_slice(value);
-    value.len()
+    let (front, rest) = room.split_at_mut(value.len());
+    front.copy_from_slice(value);
+    blank(rest);
 }
 
 /// Writes a pair into a slot, zeros behind its value.
@@ -125,11 +131,13 @@ fn fill_slot(slot: &mut [u8], key: &Key, value: &[u8])
     requires short { length value.now ≤ value_room }
     ensures { slot.new ≡ slot_bytes key.now value.now }
 {
-    slot[0] = 1;
-    slot[1..LENGTH_AT].copy_from_slice(&key.to_bytes());
-    write_number(&mut slot[LENGTH_AT..VALUE_AT], value.len() as u64);
-    blank(&mut slot[VALUE_AT..SLOT]);
-    slot[VALUE_AT..VALUE_AT + value.len()].copy_from_slice(value);
+    let (flag, rest) = slot.split_at_mut(1);
+    let (name, rest) = rest.split_at_mut(Key::SIZE);
+    let (size, room) = rest.split_at_mut(4);
+    flag[0] = 1;
+    name.copy_from_slice(&key.to_bytes());
+    write_number(size, value.len() as u64);
+    fill(room, value);
 }
 
 /// Overwrites a slot of a table with a pair.

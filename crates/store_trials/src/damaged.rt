@@ -1,12 +1,13 @@
 //! Stores over damaged bytes: what still reads is found, what does not is missing, and puts go on.
 
 use crate::score::Score;
-use anyhow::anyhow;
+use anyhow::Context;
 use keys::{Fnv1a, Key, key_of};
 use lists::are_zeros;
 use log_store::Log;
-use slots::Slots;
-use stores::{FindOutcome, PutOutcome, Store};
+use slots::{SLOT, Slots};
+use stores::Store;
+use stores::store::VALUE_ROOM;
 
 const GAIN: &[u8] = b"gain 1 2\n";
 
@@ -14,132 +15,115 @@ const HOLD: &[u8] = b"hold 15\n";
 
 const RAMPS: &[u8] = b"ramp 60 200\nramp 120 600\nramp 90 1";
 
+/// A byte that is damaged: its place, and what it becomes.
+#[derive(Clone, Copy)]
+struct Damage(usize, u8);
+
+impl Damage {
+    /// Sets the byte.
+    fn apply(self, bytes: &mut [u8]) {
+        if let Some(at) = bytes.get_mut(self.0) {
+            *at = self.1;
+        }
+    }
+}
+
 /// A byte of a log of three entries (GAIN, RAMPS, nothing) that is damaged, and which of them are still found.
-const LOG_DAMAGE: [(usize, u8, bool, bool, bool); 9] = [
+const LOG_DAMAGE: [(Damage, [bool; 3]); 9] = [
     // the kind of a head, a length, the kind of a block, the padding: the log ends before that entry
-    (0, 4, false, false, false),
-    (37, 1, false, false, false),
-    (41, 5, false, false, false),
-    (60, 1, false, false, false),
-    (74, 6, true, false, false),
-    (180, 1, true, false, false),
-    (181, 0, true, true, false),
+    (Damage(0, 4), [false, false, false]),
+    (Damage(37, 1), [false, false, false]),
+    (Damage(41, 5), [false, false, false]),
+    (Damage(60, 1), [false, false, false]),
+    (Damage(74, 6), [true, false, false]),
+    (Damage(180, 1), [true, false, false]),
+    (Damage(181, 0), [true, true, false]),
     // a key or a value: the entry is whole, and another one
-    (1, 255, false, true, true),
-    (42, 0, false, true, true),
+    (Damage(1, 255), [false, true, true]),
+    (Damage(42, 0), [false, true, true]),
 ];
 
-/// A byte of a slot of GAIN that is damaged, and how many bytes are then found; slot 1 has 8 under the same key.
-const SLOT_DAMAGE: [(usize, u8, usize); 6] = [
-    (0, 1, 9),
-    (0, 2, 8),
-    (37, 1, 8),
-    (40, 3, 3),
-    (1, 255, 8),
-    (2089, 0, 9),
+/// A byte of a slot of GAIN that is damaged, and what is then found under its key; the next slot has HOLD under it.
+const SLOT_DAMAGE: [(Damage, &[u8]); 6] = [
+    (Damage(0, 1), GAIN),
+    (Damage(0, 2), HOLD),
+    (Damage(37, 1), HOLD),
+    (Damage(40, 3), b"gai"),
+    (Damage(1, 255), HOLD),
+    (Damage(2089, 0), GAIN),
 ];
 
 /// The FNV-1a key of some bytes.
 fn key(bytes: &[u8]) -> anyhow::Result<Key> {
-    match key_of::<Fnv1a>(bytes) {
-        Some(key) => Ok(key),
-        None => Err(anyhow!("too long")),
-    }
+    key_of::<Fnv1a>(bytes).context("too long")
 }
 
-/// How many bytes of a value a find gives, zeros being behind them; 0 where there is none.
-fn found<S: Store>(store: &mut S, key: &Key, value: &[u8]) -> Option<usize> {
-    let mut buffer = [255u8; 2048];
-    let FindOutcome::Found(size) = store.find(key, &mut buffer).outcome else {
-        return if are_zeros(&buffer) { Some(0) } else { None };
+/// Whether a find gives exactly a value, and zeros behind it.
+fn finds<S: Store>(store: &mut S, key: &Key, value: &[u8]) -> bool {
+    let mut buffer = [255u8; VALUE_ROOM];
+    let Ok(answer) = store.find(key, &mut buffer) else {
+        return false;
     };
-    let (front, rest) = buffer.split_at_checked(size)?;
-    if value.starts_with(front) && are_zeros(rest) {
-        return Some(size);
-    }
-    None
+    let rest = buffer.strip_prefix(value);
+    answer.value == Some(value.len()) && rest.is_some_and(|r| are_zeros(r))
 }
 
-/// Whether a find gives exactly a value.
+/// Whether a find gives exactly a value under its key.
 fn has<S: Store>(store: &mut S, value: &[u8]) -> anyhow::Result<bool> {
-    Ok(found(store, &key(value)?, value) == Some(value.len()))
+    Ok(finds(store, &key(value)?, value))
 }
 
 /// Whether a put of a value under its key is kept.
 fn keeps<S: Store>(store: &mut S, value: &[u8]) -> anyhow::Result<bool> {
-    match store.put(&key(value)?, value).outcome {
-        PutOutcome::Kept => Ok(true),
-        _ => Ok(false),
-    }
+    Ok(store.put(&key(value)?, value).is_ok())
 }
 
-/// Sets a byte.
-fn damage(bytes: &mut [u8], place: usize, byte: u8) {
-    if let Some(at) = bytes.get_mut(place) {
-        *at = byte;
-    }
-}
-
-/// Sets bytes from a place on.
-fn plant(bytes: &mut [u8], place: usize, from: &[u8]) {
-    for (i, b) in from.iter().enumerate() {
-        damage(bytes, place.saturating_add(i), *b);
-    }
-}
-
-/// A log over some bytes.
-fn log(bytes: Vec<u8>) -> anyhow::Result<Log> {
-    match Log::new(7, bytes) {
-        Ok(log) => Ok(log),
-        Err(_) => Err(anyhow!("no log")),
-    }
-}
-
-/// Whether a damaged log finds which of its entries, before and after a put that goes where it breaks off.
-fn try_log(rt: &HostRuntime, row: &(usize, u8, bool, bool, bool)) -> anyhow::Result<bool> {
-    let (place, byte, first, second, third) = *row;
-    let mut good = log(vec![in rt.alloc(); 0; 300]?)?;
-    let mut all = keeps(&mut good, GAIN)? && keeps(&mut good, RAMPS)? && keeps(&mut good, b"")?;
-    let mut bytes = good.into_bytes();
-    damage(bytes.as_mut_slice(), place, byte);
-    let mut store = log(bytes)?;
-    for turn in 0..2 {
-        all = all && has(&mut store, GAIN)? == first && has(&mut store, RAMPS)? == second;
-        // a value of no bytes is found as one that is missing is, so its key tells
-        let mut buffer = [0u8; 2048];
-        let empty = match store.find(&key(b"")?, &mut buffer).outcome {
-            FindOutcome::Found(_) => true,
-            _ => false,
-        };
-        all = all && empty == third;
-        if turn == 0 {
-            all = all && keeps(&mut store, HOLD)?;
-        }
-        all = all && has(&mut store, HOLD)?;
+/// Whether a log finds which of its three values, and no others.
+fn has_left(store: &mut Log, left: [bool; 3]) -> anyhow::Result<bool> {
+    let mut all = true;
+    for (value, is_left) in [GAIN, RAMPS, b""].iter().zip(left.iter()) {
+        all = all && has(store, value)? == *is_left;
     }
     Ok(all)
 }
 
-/// Whether a damaged table of slots finds so many bytes, and takes puts as before.
-fn try_slots(rt: &HostRuntime, row: &(usize, u8, usize)) -> anyhow::Result<bool> {
-    let (place, byte, size) = *row;
+/// Whether a damaged log finds which of its entries, before and after a put that goes where it breaks off.
+fn try_log(rt: &HostRuntime, damage: Damage, left: [bool; 3]) -> anyhow::Result<bool> {
+    let mut good = Log::new(7, vec![in rt.alloc(); 0; 300]?)?;
+    let kept = keeps(&mut good, GAIN)? && keeps(&mut good, RAMPS)? && keeps(&mut good, b"")?;
+    let mut bytes = good.into_bytes();
+    damage.apply(bytes.as_mut_slice());
+    let mut store = Log::new(7, bytes)?;
+    let before = has_left(&mut store, left)?;
+    let holds = keeps(&mut store, HOLD)? && has(&mut store, HOLD)?;
+    let after = has_left(&mut store, left)? && has(&mut store, HOLD)?;
+    Ok(kept && before && holds && after)
+}
+
+/// Writes bytes into a slot from a place on.
+fn plant(slot: &mut [u8], place: usize, from: &[u8]) {
+    for (at, b) in slot.iter_mut().skip(place).zip(from.iter()) {
+        *at = *b;
+    }
+}
+
+/// Whether a damaged table of slots finds a value, and takes puts as before.
+fn try_slots(rt: &HostRuntime, damage: Damage, value: &[u8]) -> anyhow::Result<bool> {
     let mut bytes: Vec<u8> = vec![in rt.alloc(); 0; 4200]?;
-    let name = key(GAIN)?.to_bytes();
-    // flag, key, length, value
-    plant(bytes.as_mut_slice(), 0, &[1]);
-    plant(bytes.as_mut_slice(), 1, &name);
-    plant(bytes.as_mut_slice(), 37, &[0, 0, 0, 9]);
-    plant(bytes.as_mut_slice(), 41, GAIN);
-    plant(bytes.as_mut_slice(), 2089, &[1]);
-    plant(bytes.as_mut_slice(), 2090, &name);
-    plant(bytes.as_mut_slice(), 2126, &[0, 0, 0, 8]);
-    plant(bytes.as_mut_slice(), 2130, HOLD);
-    damage(bytes.as_mut_slice(), place, byte);
-    let Ok(mut store) = Slots::new(bytes) else {
-        return Ok(false);
-    };
-    let value = if size == 8 { HOLD } else { GAIN };
-    let before = found(&mut store, &key(GAIN)?, value) == Some(size);
+    let key = key(GAIN)?;
+    for (slot, (value, size)) in bytes
+        .as_mut_slice()
+        .chunks_exact_mut(SLOT)
+        .zip([(GAIN, 9), (HOLD, 8)])
+    {
+        plant(slot, 0, &[1]);
+        plant(slot, 1, &key.to_bytes());
+        plant(slot, 37, &[0, 0, 0, size]);
+        plant(slot, 41, value);
+    }
+    damage.apply(bytes.as_mut_slice());
+    let mut store = Slots::new(bytes)?;
+    let before = finds(&mut store, &key, value);
     Ok(before && keeps(&mut store, RAMPS)? && has(&mut store, RAMPS)?)
 }
 
@@ -153,11 +137,8 @@ fn try_random(rt: &HostRuntime, seed: u64) -> anyhow::Result<bool> {
             .wrapping_add(1442695040888963407);
         *b = (state >> 56) as u8;
     }
-    let copy = bytes.clone()?;
-    let mut journal = log(copy)?;
-    let Ok(mut store) = Slots::new(bytes) else {
-        return Ok(false);
-    };
+    let mut journal = Log::new(7, bytes.clone()?)?;
+    let mut store = Slots::new(bytes)?;
     let mut good = true;
     for value in [GAIN, RAMPS, HOLD] {
         good = good && keeps(&mut store, value)? && has(&mut store, value)?;
@@ -168,14 +149,15 @@ fn try_random(rt: &HostRuntime, seed: u64) -> anyhow::Result<bool> {
 
 /// Tries all of these.
 pub fn try_damaged_stores(rt: &HostRuntime, score: &mut Score) -> anyhow::Result<()> {
-    for row in LOG_DAMAGE.iter() {
-        let word = score.count(try_log(rt, row)?);
-        let (place, byte, _, _, _) = *row;
+    for (damage, left) in LOG_DAMAGE.iter() {
+        let word = score.count(try_log(rt, *damage, *left)?);
+        let Damage(place, byte) = *damage;
         println!(rt; "{word} log with byte {place} set to {byte}")?;
     }
-    for row in SLOT_DAMAGE.iter() {
-        let word = score.count(try_slots(rt, row)?);
-        let (place, byte, size) = *row;
+    for (damage, value) in SLOT_DAMAGE.iter() {
+        let word = score.count(try_slots(rt, *damage, value)?);
+        let Damage(place, byte) = *damage;
+        let size = value.len();
         println!(rt; "{word} slots with byte {place} set to {byte}: {size} bytes found")?;
     }
     for seed in 1..9 {

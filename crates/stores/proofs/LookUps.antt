@@ -1,10 +1,10 @@
-use Rattle.std.proofs.Common.{◌≡◌, ℕ, ◌≤◌, List, [], length, replicate, Some, None, Option, sym, refl, ap, ◌∙◌, subst, arith}
+use Rattle.std.proofs.Common.{◌≡◌, ℕ, ◌≤◌, ◌==◌, List, [], length, replicate, Some, None, Ok, Option, sym, refl, ap, ◌∙◌, subst, arith}
 use Rattle.keys.specs.Digests.{value_room}
 use Rattle.keys.specs.declared.key.Key.{Key}
-use Rattle.stores.specs.Numbers.{Raised, no_fault, FindNumbers, PutNumbers, padded}
-use Rattle.stores.specs.Model.{Model, FindMeans, FindPost}
+use Rattle.stores.specs.Numbers.{Raised, no_fault, FindNumbers, PutNumbers, refused_unless, padded}
+use Rattle.stores.specs.Model.{FindMeans, FindPost}
 use Rattle.stores.specs.LookUps.{found_numbers, found_buffer, LooksUp}
-use Rattle.stores.proofs.Buffers.{blanked}
+use Rattle.stores.proofs.Buffers.{blanked, buffer_fits}
 
 -- a store whose find looks up a value that it holds, and has none exactly where it holds none, keeps what finds mean
 module _ {S : Type 0} (holds : S → Key → List ℕ → Type 0) (raises : S → Raised → Type 0) (puts : S → Key → List ℕ → PutNumbers → S → Type 0) (value : S → Key → Option (List ℕ)) (some-held : (s : S) (k : Key) (v : List ℕ) → value s k ≡ Some v → holds s k v) (none-held : (s : S) (k : Key) → value s k ≡ None → (v : List ℕ) → holds s k v → ⊥) where
@@ -13,28 +13,22 @@ module _ {S : Type 0} (holds : S → Key → List ℕ → Type 0) (raises : S �
     from_answer o e = (f.answer ∙ ap found_numbers e, f.buffer ∙ ap found_buffer e)
 
     look_answers : (o : Option (List ℕ)) → value s k ≡ o → (1 ≤ r.answer) × (r.answer ≤ 2) × (r.first ≡ no_fault)
-    look_answers None e =
-        let q = (from_answer None e).0 in
-        let a = ap (λ (x : FindNumbers). x.answer) q in
-        (omega arith, omega arith, ap (λ (x : FindNumbers). x.first) q)
-    look_answers (Some v) e =
-        let q = (from_answer (Some v) e).0 in
-        let a = ap (λ (x : FindNumbers). x.answer) q in
-        (omega arith, omega arith, ap (λ (x : FindNumbers). x.first) q)
+    look_answers None e = rw (from_answer None e).0 (omega arith, omega arith, refl)
+    look_answers (Some v) e = rw (from_answer (Some v) e).0 (omega arith, omega arith, refl)
 
     look_found : (o : Option (List ℕ)) → value s k ≡ o → r.answer ≡ 1 → (v : List ℕ) × (holds s k v) × (length v ≡ r.size) × (p ≡ padded v)
-    look_found None e one = let a = ap (λ (x : FindNumbers). x.answer) (from_answer None e).0 in absurd (omega arith)
+    look_found None e one = absurd (omega (arith, rw (from_answer None e).0 at one))
     look_found (Some v) e one =
         let q = from_answer (Some v) e in
-        (v, some-held s k v e, sym (ap (λ (x : FindNumbers). x.size) q.0), q.1)
+        (v, some-held s k v e, rw q.0, q.1)
 
     look_missing : (o : Option (List ℕ)) → value s k ≡ o → r.answer ≡ 2 → (v : List ℕ) → holds s k v → ⊥
     look_missing None e two v h = none-held s k e v h
-    look_missing (Some w) e two v h = let a = ap (λ (x : FindNumbers). x.answer) (from_answer (Some w) e).0 in absurd (omega arith)
+    look_missing (Some w) e two v h = omega (arith, rw (from_answer (Some w) e).0 at two)
 
     look_blanked : (o : Option (List ℕ)) → value s k ≡ o → (r.answer ≡ 1 → ⊥) → (p ≡ padded []) × (r.size ≡ 0)
-    look_blanked None e other = let q = from_answer None e in (q.1, ap (λ (x : FindNumbers). x.size) q.0)
-    look_blanked (Some v) e other = absurd (other (ap (λ (x : FindNumbers). x.answer) (from_answer (Some v) e).0))
+    look_blanked None e other = let q = from_answer None e in (q.1, rw q.0)
+    look_blanked (Some v) e other = absurd (other (rw (from_answer (Some v) e).0))
 
   pub look_up_means : FindMeans {S = S} (record { holds = holds; raises = raises; finds = LooksUp value; puts = puts })
   look_up_means = record {
@@ -51,18 +45,18 @@ module _ {S : Type 0} (holds : S → Key → List ℕ → Type 0) (raises : S �
   }
 
 -- a find that filled the buffer with the value, and one that blanked it where there is none
-module _ {S : Type 0} (m : Model S) (value : S → Key → Option (List ℕ)) (looks : (s : S) (k : Key) (r : FindNumbers) (p : List ℕ) (t : S) → LooksUp value s k r p t → m.finds s k r p t) (s : S) (k : Key) (b : List ℕ) (room : length b ≡ value_room) where
-  pub look_up_some : (v out : List ℕ) (n : ℕ) → value s k ≡ Some v → n ≡ length v → out ≡ padded v → FindPost m s k b (record { answer = 1; size = n; first = no_fault }) out s
-  look_up_some v out n e en eo =
-      let sized : ℕ → FindNumbers = λ i. record { answer = 1; size = i; first = no_fault } in
+module _ {S : Type 0} {holds : S → Key → List ℕ → Type 0} {raises : S → Raised → Type 0} {puts : S → Key → List ℕ → PutNumbers → S → Type 0} {value : S → Key → Option (List ℕ)} {s : S} {k : Key} {b out : List ℕ} (passed : Ok tt ≡ refused_unless (length b == value_room)) where
+  looked_up : (o : Option (List ℕ)) (r : FindNumbers) → value s k ≡ o → r ≡ found_numbers o → out ≡ found_buffer o → FindPost {S = S} (record { holds = holds; raises = raises; finds = LooksUp value; puts = puts }) s k b r out s
+  looked_up o r e er eo =
       record {
-        does = λ _. looks s k _ out s (record { answer = ap sized en ∙ sym (ap found_numbers e); buffer = eo ∙ sym (ap found_buffer e); same = refl });
-        refuses = λ other. absurd (other room);
+        does = λ _. record { answer = er ∙ sym (ap found_numbers e); buffer = eo ∙ sym (ap found_buffer e); same = refl };
+        refuses = λ other. absurd (other (buffer_fits b passed));
       }
 
-  pub look_up_none : (out : List ℕ) → value s k ≡ None → out ≡ replicate (length b) 0 → FindPost m s k b (record { answer = 2; size = 0; first = no_fault }) out s
-  look_up_none out e eo =
-      record {
-        does = λ _. looks s k _ out s (record { answer = sym (ap found_numbers e); buffer = blanked b out room eo ∙ sym (ap found_buffer e); same = refl });
-        refuses = λ other. absurd (other room);
-      }
+  pub look_up_some : {v : List ℕ} {n : ℕ} → value s k ≡ Some v → n ≡ length v → out ≡ padded v → FindPost {S = S} (record { holds = holds; raises = raises; finds = LooksUp value; puts = puts }) s k b (record { answer = 1; size = n; first = no_fault }) out s
+  look_up_some {v} e en eo =
+      let sized : ℕ → FindNumbers = λ i. record { answer = 1; size = i; first = no_fault } in
+      looked_up (Some v) _ e (ap sized en) eo
+
+  pub look_up_none : value s k ≡ None → out ≡ replicate (length b) 0 → FindPost {S = S} (record { holds = holds; raises = raises; finds = LooksUp value; puts = puts }) s k b (record { answer = 2; size = 0; first = no_fault }) out s
+  look_up_none e eo = looked_up None _ e refl (blanked b out (buffer_fits b passed) eo)

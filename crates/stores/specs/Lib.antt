@@ -2,3 +2,4 @@ pub mod Numbers
 pub mod Model
 pub mod LookUps
 pub mod Absents
+pub mod Texts

@@ -10,6 +10,10 @@ pub record Model (S : Type 0) : Type 1 where
   pub finds : S → Key → FindNumbers → List ℕ → S → Type 0
   pub puts : S → Key → List ℕ → PutNumbers → S → Type 0
 
+-- two states of a store hold the same pairs
+abbrev pub HoldSame : {S : Type 0} → Model S → S → S → Type 0
+HoldSame m s t = (k : Key) (v : List ℕ) → (m.holds s k v → m.holds t k v) × (m.holds t k v → m.holds s k v)
+
 -- what is true of the pairs and the faults of a store
 pub record HeldMeans {S : Type 0} (m : Model S) : Type 0 where
   -- a value has at most its room

@@ -1,16 +1,15 @@
-use Rattle.std.specs.Prelude.{ℕ, Bool, ◌&&◌, List, Some, None, Ok, Err, Option, Result, nat_le}
+use Rattle.std.specs.Prelude.{◌≡◌, ℕ, Bool, true, false, cond, ◌&&◌, List, Some, None, Ok, Err, Option, Result, nat_le}
+use Rattle.std.specs.Result.{result_map_both}
 use Rattle.keys.specs.Digests.{value_room}
 use Rattle.lists.specs.Each.{zeros_to}
 use Rattle.stores.specs.declared.mark.Mark.{Mark}
 use Rattle.stores.specs.declared.answers.Cause.{Cause}
 use Rattle.stores.specs.declared.answers.Cause.TheVariants.{Busy, Broken, Differs, NoRoom, Absent}
 use Rattle.stores.specs.declared.answers.Fault.{Fault}
-use Rattle.stores.specs.declared.answers.FindOutcome.{FindOutcome}
-use Rattle.stores.specs.declared.answers.FindOutcome.TheVariants as find
-use Rattle.stores.specs.declared.answers.PutOutcome.{PutOutcome}
-use Rattle.stores.specs.declared.answers.PutOutcome.TheVariants as put
-use Rattle.stores.specs.declared.answers.FindAnswer.{FindAnswer}
-use Rattle.stores.specs.declared.answers.PutAnswer.{PutAnswer}
+use Rattle.stores.specs.declared.answers.Answer.{Answer}
+use Rattle.stores.specs.declared.answers.Declined.{Declined}
+use Rattle.stores.specs.declared.answers.StoreError.{StoreError}
+use Rattle.stores.specs.declared.answers.StoreError.TheVariants.{Failed, Refused}
 
 -- the number of a mark
 abbrev pub mark_number : Mark → ℕ
@@ -24,6 +23,11 @@ making_answer (Err y) = 10
 -- a mark that a making may be given: 1 to 254
 abbrev pub is_free_mark : ℕ → Bool
 is_free_mark n = nat_le 1 n && nat_le n 254
+
+-- a mark made of a number; declined for one that is not free, which comes back
+abbrev pub MarkOf : ℕ → Result Mark (Declined ℕ) → Type 0
+MarkOf n r =
+    result_map_both mark_number (λ (d : Declined ℕ). d.given) r ≡ cond (is_free_mark n) (Ok n) (Err n)
 
 -- the number of a cause
 abbrev pub cause_number : Cause → ℕ
@@ -42,10 +46,14 @@ pub record Raised : Type 0 where
 abbrev pub no_fault : Raised
 no_fault = record { mark = 0; cause = 0 }
 
+-- a fault by its numbers
+abbrev pub raised : Fault → Raised
+raised f = record { mark = mark_number f.mark; cause = cause_number f.cause }
+
 -- the first fault that an answer carries, by its numbers
 abbrev pub carried : Option Fault → Raised
 carried None = no_fault
-carried (Some f) = record { mark = mark_number f.mark; cause = cause_number f.cause }
+carried (Some f) = raised f
 
 -- what a find answers: 1 found, 2 missing, 3 a fault, 4 refused; the length of what was found, else 0; the first fault
 pub record FindNumbers : Type 0 where
@@ -58,36 +66,34 @@ pub record PutNumbers : Type 0 where
   pub answer : ℕ
   pub first : Raised
 
-abbrev pub find_answer : FindOutcome → ℕ
-find_answer (find.Found n) = 1
-find_answer find.Missing = 2
-find_answer find.Failed = 3
-find_answer find.Refused = 4
-
-abbrev pub find_size : FindOutcome → ℕ
-find_size (find.Found n) = n
-find_size find.Missing = 0
-find_size find.Failed = 0
-find_size find.Refused = 0
-
-abbrev pub put_answer : PutOutcome → ℕ
-put_answer put.Kept = 1
-put_answer put.Failed = 3
-put_answer put.Refused = 4
-
--- the answers of the code, by their numbers
-abbrev pub find_numbers : FindAnswer → FindNumbers
-find_numbers a = record { answer = find_answer a.outcome; size = find_size a.outcome; first = carried a.first }
-
-abbrev pub put_numbers : PutAnswer → PutNumbers
-put_numbers a = record { answer = put_answer a.outcome; first = carried a.first }
-
 -- a call that was refused carries nothing
 abbrev pub find_refused : FindNumbers
 find_refused = record { answer = 4; size = 0; first = no_fault }
 
 abbrev pub put_refused : PutNumbers
 put_refused = record { answer = 4; first = no_fault }
+
+-- what a find that was done answers, by what it found
+abbrev pub find_done : Option ℕ → Raised → FindNumbers
+find_done (Some n) first = record { answer = 1; size = n; first = first }
+find_done None first = record { answer = 2; size = 0; first = first }
+
+-- what a find gives, by its numbers
+abbrev pub find_numbers : Result (Answer (Option ℕ)) StoreError → FindNumbers
+find_numbers (Ok a) = find_done a.value (carried a.first)
+find_numbers (Err (Failed f)) = record { answer = 3; size = 0; first = raised f }
+find_numbers (Err Refused) = find_refused
+
+-- what a put gives, by its numbers
+abbrev pub put_numbers : Result (Answer Unit) StoreError → PutNumbers
+put_numbers (Ok a) = record { answer = 1; first = carried a.first }
+put_numbers (Err (Failed f)) = record { answer = 3; first = raised f }
+put_numbers (Err Refused) = put_refused
+
+-- what a test before a call gives: it goes on, or the call is refused
+abbrev pub refused_unless : Bool → Result Unit StoreError
+refused_unless true = Ok tt
+refused_unless false = Err Refused
 
 -- a value and zeros behind it, as a buffer of a value's room holds them
 unfoldable pub padded : List ℕ → List ℕ

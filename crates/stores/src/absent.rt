@@ -5,7 +5,7 @@ use crate::mark::Mark;
 pub mod making;
 
 /// A store that holds nothing and keeps nothing.
-#[derive(Clone, Copy)]
+#[derive(Clone, Copy, Debug, PartialEq, Eq)]
 pub struct Absent {
     mark: Mark,
 }

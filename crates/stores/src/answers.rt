@@ -1,15 +1,17 @@
 //! What a store answers.
 
 use crate::mark::Mark;
+use std::error::Error;
+use std::fmt;
 
 /// A making that was declined: nothing is made, and what was given comes back.
-#[derive(Drop)]
+#[derive(Debug, Drop, PartialEq, Eq)]
 pub struct Declined<T> {
     pub given: T,
 }
 
 /// Why a call failed.
-#[derive(Clone, Copy)]
+#[derive(Clone, Copy, Debug, PartialEq, Eq)]
 pub enum Cause {
     /// The line is busy: another try may help.
     Busy,
@@ -24,46 +26,79 @@ pub enum Cause {
 }
 
 /// A fault: what raised it, and why.
-#[derive(Clone, Copy)]
+#[derive(Clone, Copy, Debug, PartialEq, Eq)]
 pub struct Fault {
     pub mark: Mark,
     pub cause: Cause,
 }
 
-/// How a find ended.
-#[derive(Clone, Copy)]
-pub enum FindOutcome {
-    /// A value of that many bytes was found.
-    Found(usize),
-    /// No pair of the key is held.
-    Missing,
-    /// It failed.
-    Failed,
-    /// The buffer has another length than a value's room; nothing was done.
-    Refused,
-}
-
-/// How a put ended.
-#[derive(Clone, Copy)]
-pub enum PutOutcome {
-    /// The pair is held.
-    Kept,
-    /// It failed.
-    Failed,
-    /// The value is longer than a value's room; nothing was done.
-    Refused,
-}
-
-/// The outcome of a find, and the first fault met on the way.
-#[derive(Clone, Copy)]
-pub struct FindAnswer {
-    pub outcome: FindOutcome,
+/// What a call that was done gives, and the first fault met on the way.
+#[derive(Clone, Copy, Debug, PartialEq, Eq)]
+pub struct Answer<T> {
+    pub value: T,
     pub first: Option<Fault>,
 }
 
-/// The outcome of a put, and the first fault met on the way.
-#[derive(Clone, Copy)]
-pub struct PutAnswer {
-    pub outcome: PutOutcome,
-    pub first: Option<Fault>,
+/// Why a call was not done.
+#[derive(Clone, Copy, Debug, PartialEq, Eq)]
+pub enum StoreError {
+    /// It failed, and this was the first fault met on the way.
+    Failed(Fault),
+    /// The buffer has another length than a value's room, or the value is longer than it; nothing was done.
+    Refused,
 }
+
+/// The length of the value that was found, none where no pair of the key is held.
+pub type FindResult = Result<Answer<Option<usize>>, StoreError>;
+
+/// The pair is held.
+pub type PutResult = Result<Answer<()>, StoreError>;
+
+impl fmt::Display for Cause {
+    ghost use Rattle.std.specs.Prelude.{Some};
+    ghost use Rattle.stores.specs.Texts.{cause_text};
+
+    ghost output = { λ c. Some (cause_text c) };
+
+    fn fmt<W: fmt::Write>(&self, f: &mut fmt::Formatter<W>) -> fmt::Result {
+        f.write_str(match self {
+            Cause::Busy => "busy",
+            Cause::Broken => "broken",
+            Cause::Differs => "another key",
+            Cause::NoRoom => "no room",
+            Cause::Absent => "no store",
+        })
+    }
+}
+
+impl fmt::Display for StoreError {
+    ghost use Rattle.std.specs.Prelude.{Some};
+    ghost use Rattle.stores.specs.Texts.{store_error_text};
+
+    ghost output = { λ e. Some (store_error_text e) };
+
+    fn fmt<W: fmt::Write>(&self, f: &mut fmt::Formatter<W>) -> fmt::Result {
+        match self {
+            StoreError::Failed(fault) => {
+                let mark = u8::from(fault.mark);
+                let cause = fault.cause;
+                write!(f, "mark {mark}: {cause}")
+            }
+            StoreError::Refused => f.write_str("refused for its length"),
+        }
+    }
+}
+
+impl Error for StoreError {}
+
+impl<T> fmt::Display for Declined<T> {
+    ghost use Rattle.std.specs.Prelude.{Some, codes};
+
+    ghost output = { λ _. Some (codes "declined") };
+
+    fn fmt<W: fmt::Write>(&self, f: &mut fmt::Formatter<W>) -> fmt::Result {
+        f.write_str("declined")
+    }
+}
+
+impl<T: fmt::Debug + Drop> Error for Declined<T> {}

@@ -8,6 +8,6 @@ pub mod mark;
 pub mod store;
 
 pub use self::absent::Absent;
-pub use self::answers::{Cause, Declined, Fault, FindAnswer, FindOutcome, PutAnswer, PutOutcome};
+pub use self::answers::{Answer, Cause, Declined, Fault, FindResult, PutResult, StoreError};
 pub use self::mark::Mark;
-pub use self::store::{Store, blank};
+pub use self::store::{Store, blank, check_buffer, check_value};

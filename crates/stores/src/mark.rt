@@ -5,7 +5,7 @@ ghost use Rattle.std.specs.Prelude.{◌≤◌};
 pub mod making;
 
 /// The mark of a store or a layer, 1 to 255.
-#[derive(Clone, Copy)]
+#[derive(Clone, Copy, Debug, PartialEq, Eq)]
 pub struct Mark {
     number: u8,
     ghost some: { 1 ≤ number },

@@ -1,14 +1,13 @@
 //! The interface of a store, with its meaning.
 
-ghost use Rattle.std.specs.Prelude.{◌≡◌, [], length, replicate};
-ghost use Rattle.stores.specs.Numbers.{find_numbers, put_numbers};
+ghost use Rattle.std.specs.Prelude.{◌≡◌, ◌==◌, nat_le, length, replicate};
+ghost use Rattle.keys.specs.Digests.{value_room};
+ghost use Rattle.stores.specs.Numbers.{find_numbers, put_numbers, refused_unless};
 ghost use Rattle.stores.specs.Model.{Model, HeldMeans, FindMeans, PutMeans, FindPost, PutPost};
 
-use crate::answers::{FindAnswer, PutAnswer};
+use crate::answers::{FindResult, PutResult, StoreError};
 use keys::Key;
-
-/// The most bytes of a value, and the length of the buffer that a find fills.
-pub const VALUE_ROOM: usize = 2048;
+pub use keys::VALUE_ROOM;
 
 /// A store of pairs of a key and a value of up to 2,048 bytes, which may fault and may forget.
 pub trait Store {
@@ -16,11 +15,11 @@ pub trait Store {
     ghost model: { Model Self };
 
     /// Looks for a value of a key, and fills a buffer of exactly 2,048 bytes with it and zeros behind.
-    fn find(&mut self, key: &Key, buffer: &mut [u8]) -> FindAnswer
+    fn find(&mut self, key: &Key, buffer: &mut [u8]) -> FindResult
         ensures { FindPost model self.old key.now buffer.old (find_numbers result) buffer.new self.new };
 
     /// Puts a value of up to 2,048 bytes under a key.
-    fn put(&mut self, key: &Key, value: &[u8]) -> PutAnswer
+    fn put(&mut self, key: &Key, value: &[u8]) -> PutResult
         ensures { PutPost model self.old key.now value.now (put_numbers result) self.new };
 
     // what is true of pairs and faults
@@ -31,6 +30,26 @@ pub trait Store {
 
     // what is true of puts
     ghost putting: { PutMeans model };
+}
+
+/// Refuses a buffer that has not exactly the room of a value.
+pub fn check_buffer(buffer: &[u8]) -> Result<(), StoreError>
+    ensures { result ≡ refused_unless (length buffer.now == value_room) }
+{
+    if buffer.len() != VALUE_ROOM {
+        return Err(StoreError::Refused);
+    }
+    Ok(())
+}
+
+/// Refuses a value that is longer than its room.
+pub fn check_value(value: &[u8]) -> Result<(), StoreError>
+    ensures { result ≡ refused_unless (nat_le (length value.now) value_room) }
+{
+    if value.len() > VALUE_ROOM {
+        return Err(StoreError::Refused);
+    }
+    Ok(())
 }
 
 /// Fills a slice with zeros.

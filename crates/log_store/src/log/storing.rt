@@ -6,11 +6,11 @@ ghost use Rattle.log_store.specs.Storing.{log_model, log_mark, log_most, SamePai
 ghost use Rattle.log_store.specs.Laws.{held_means, find_means, put_means};
 
 use super::Log;
-use crate::walk::{append, has_last, walk};
+use crate::walk::{append, walk};
 use keys::Key;
-use stores::store::VALUE_ROOM;
 use stores::{
-    Cause, Declined, Fault, FindAnswer, FindOutcome, Mark, PutAnswer, PutOutcome, Store, blank,
+    Answer, Cause, Declined, Fault, FindResult, Mark, PutResult, Store, StoreError, blank,
+    check_buffer, check_value,
 };
 
 /// The most bytes of a log.
@@ -23,7 +23,7 @@ impl Log {
         ensures answer { making_answer result ≡ (if is_free_mark mark && nat_le (vec_len bytes) log_most then 0 else 10) }
         ensures cases { MatchResult result (λ s. (s.bytes ≡ bytes) × (log_mark s ≡ mark)) (λ d. d.given ≡ bytes) }
     {
-        let Some(mark) = Mark::new(mark) else {
+        let Ok(mark) = Mark::try_from(mark) else {
             return Err(Declined { given: bytes });
         };
         if bytes.len() > MOST {
@@ -59,59 +59,41 @@ impl Store for Log {
 
     ghost putting = { put_means };
 
-    fn find(&mut self, key: &Key, buffer: &mut [u8]) -> FindAnswer {
-        if buffer.len() != VALUE_ROOM {
-            return FindAnswer {
-                outcome: FindOutcome::Refused,
+    fn find(&mut self, key: &Key, buffer: &mut [u8]) -> FindResult {
+        check_buffer(buffer)?;
+        let Some(entry) = walk(self.bytes.as_slice(), key).last else {
+            blank(buffer);
+            return Ok(Answer {
+                value: None,
                 first: None,
-            };
-        }
-        match walk(self.bytes.as_slice(), key).last {
-            Some(entry) => {
-                // the buffer has room for every value
-                let _ = entry.fill_value(buffer);
-                FindAnswer {
-                    outcome: FindOutcome::Found(entry.value_len()),
-                    first: None,
-                }
-            }
-            None => {
-                blank(buffer);
-                FindAnswer {
-                    outcome: FindOutcome::Missing,
-                    first: None,
-                }
-            }
-        }
+            });
+        };
+        // the buffer has room for every value
+        let _ = entry.fill_value(buffer);
+        Ok(Answer {
+            value: Some(entry.value_len()),
+            first: None,
+        })
     }
 
-    fn put(&mut self, key: &Key, value: &[u8]) -> PutAnswer {
-        if value.len() > VALUE_ROOM {
-            return PutAnswer {
-                outcome: PutOutcome::Refused,
-                first: None,
-            };
-        }
-        let bytes = self.bytes.as_slice();
-        let met = walk(bytes, key);
-        let end = bytes.len() - met.rest.len();
-        let kept = PutAnswer {
-            outcome: PutOutcome::Kept,
+    fn put(&mut self, key: &Key, value: &[u8]) -> PutResult {
+        check_value(value)?;
+        let kept = Answer {
+            value: (),
             first: None,
         };
-        if has_last(&met, value) {
-            return kept;
+        let met = walk(self.bytes.as_slice(), key);
+        if met.ends_with(value) {
+            return Ok(kept);
         }
-        if append(self.bytes.as_mut_slice(), end, key, value) {
-            return kept;
-        }
-        let fault = Fault {
+        let end = met.end;
+        let no_room = Fault {
             mark: self.mark,
             cause: Cause::NoRoom,
         };
-        PutAnswer {
-            outcome: PutOutcome::Failed,
-            first: Some(fault),
+        match append(self.bytes.as_mut_slice(), end, key, value) {
+            Some(()) => Ok(kept),
+            None => Err(StoreError::Failed(no_room)),
         }
     }
 }

@@ -2,11 +2,11 @@
 
 ghost use Rattle.std.specs.Prelude.{◌≡◌, length};
 ghost use Rattle.std.specs.Option.{option_map};
-ghost use Rattle.slots.specs.Table.{slot_count, pair_at, pair_key, pair_value, is_damaged_at};
-ghost use Rattle.slots.specs.Storing.{bytes_of};
+ghost use Rattle.slots.specs.Table.{slot_count, slot_at, pair_at, pair_key, pair_value, is_damaged_at};
+ghost use Rattle.slots.specs.Storing.{bytes_of, value_found};
 
 use super::Slots;
-use crate::table::{is_damaged, is_taken, slot, slot_count, slot_key, slot_value};
+use crate::table::{Slot, lowest_slot, slot_count};
 use keys::Key;
 
 impl Slots {
@@ -17,38 +17,39 @@ impl Slots {
         slot_count(self.bytes.len())
     }
 
+    /// The slot of that number; absent behind the last.
+    fn slot(&self, i: usize) -> Option<Slot<'_>>
+        ensures { option_map (λ s. s.bytes.now) result ≡ slot_at i (bytes_of self.now) }
+    {
+        Slot::at(self.bytes.as_slice(), i)
+    }
+
     /// The key of the pair in a slot; absent for an empty slot, and behind the last.
     pub fn key_at(&self, i: usize) -> Option<Key>
         ensures { result ≡ option_map pair_key (pair_at i (bytes_of self.now)) }
     {
-        if i >= self.count() {
-            return None;
-        }
-        let slot = slot(self.bytes.as_slice(), i);
-        if !is_taken(slot) {
-            return None;
-        }
-        slot_key(slot)
+        self.slot(i)?.key()
     }
 
     /// The value of the pair in a slot; absent for an empty slot, and behind the last.
     pub fn value_at(&self, i: usize) -> Option<&[u8]>
         ensures { option_map (λ x. x.now) result ≡ option_map pair_value (pair_at i (bytes_of self.now)) }
     {
-        if i >= self.count() {
-            return None;
-        }
-        let slot = slot(self.bytes.as_slice(), i);
-        if !is_taken(slot) {
-            return None;
-        }
-        Some(slot_value(slot))
+        self.slot(i)?.value()
     }
 
     /// Whether a slot is empty though its flag is not 0, as no store leaves it.
     pub fn is_damaged_at(&self, i: usize) -> bool
         ensures { result ≡ is_damaged_at i (bytes_of self.now) }
     {
-        i < self.count() && is_damaged(slot(self.bytes.as_slice(), i))
+        self.slot(i).is_some_and(|slot| slot.is_damaged())
+    }
+
+    /// The value in the lowest slot of a key.
+    #[tactic(auto, using(crate::specs::Pairs::found_value))]
+    pub(crate) fn value_of(&self, key: &Key) -> Option<&[u8]>
+        ensures { option_map (λ x. x.now) result ≡ value_found key.now (bytes_of self.now) }
+    {
+        self.value_at(lowest_slot(self.bytes.as_slice(), key)?)
     }
 }

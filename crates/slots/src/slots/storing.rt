@@ -7,10 +7,9 @@ ghost use Rattle.slots.specs.Storing.{bytes_of, slots_model, put_place, next_cur
 ghost use Rattle.slots.specs.Laws.{held_means, find_means, put_means};
 
 use super::Slots;
-use crate::table::{SLOT, fill_from, lowest_slot, slot_count, write_slot};
+use crate::table::{SLOT, fill, lowest_slot, slot_count, write_slot};
 use keys::Key;
-use stores::store::VALUE_ROOM;
-use stores::{Declined, FindAnswer, FindOutcome, PutAnswer, PutOutcome, Store, blank};
+use stores::{Answer, Declined, FindResult, PutResult, Store, blank, check_buffer, check_value};
 
 impl Slots {
     /// The store over these bytes, as they are; declined where they have no slot, and they come back.
@@ -69,51 +68,34 @@ impl Store for Slots {
 
     ghost putting = { put_means };
 
-    fn find(&mut self, key: &Key, buffer: &mut [u8]) -> FindAnswer {
-        if buffer.len() != VALUE_ROOM {
-            return FindAnswer {
-                outcome: FindOutcome::Refused,
+    fn find(&mut self, key: &Key, buffer: &mut [u8]) -> FindResult {
+        check_buffer(buffer)?;
+        let Some(value) = self.value_of(key) else {
+            blank(buffer);
+            return Ok(Answer {
+                value: None,
                 first: None,
-            };
-        }
-        let bytes = self.bytes.as_slice();
-        match lowest_slot(bytes, key) {
-            Some(i) => {
-                let size = fill_from(bytes, i, buffer);
-                FindAnswer {
-                    outcome: FindOutcome::Found(size),
-                    first: None,
-                }
-            }
-            None => {
-                blank(buffer);
-                FindAnswer {
-                    outcome: FindOutcome::Missing,
-                    first: None,
-                }
-            }
-        }
+            });
+        };
+        fill(buffer, value);
+        Ok(Answer {
+            value: Some(value.len()),
+            first: None,
+        })
     }
 
-    fn put(&mut self, key: &Key, value: &[u8]) -> PutAnswer {
-        if value.len() > VALUE_ROOM {
-            return PutAnswer {
-                outcome: PutOutcome::Refused,
-                first: None,
-            };
-        }
+    fn put(&mut self, key: &Key, value: &[u8]) -> PutResult {
+        check_value(value)?;
         let place = self.choose(key);
         write_slot(self.bytes.as_mut_slice(), place, key, value);
-        PutAnswer {
-            outcome: PutOutcome::Kept,
+        Ok(Answer {
+            value: (),
             first: None,
-        }
+        })
     }
 }
 
 /// Carries the theorem that a store made from the bytes of another holds the same pairs.
-pub fn slots_reopen() -> u8
+pub fn slots_reopen()
     ensures { Reopened }
-{
-    0
-}
+{}

@@ -6,9 +6,9 @@ ghost use Rattle.stores.specs.Numbers.{is_free_mark, making_answer};
 ghost use Rattle.std.proofs.Common.{rules};
 
 use super::Absent;
-use crate::answers::{Cause, Declined, Fault, FindAnswer, FindOutcome, PutAnswer, PutOutcome};
+use crate::answers::{Answer, Cause, Declined, Fault, FindResult, PutResult, StoreError};
 use crate::mark::Mark;
-use crate::store::{Store, VALUE_ROOM, blank};
+use crate::store::{Store, blank, check_buffer, check_value};
 use keys::Key;
 
 impl Absent {
@@ -17,10 +17,8 @@ impl Absent {
         ensures answer { making_answer result ≡ (if is_free_mark mark then 0 else 10) }
         ensures cases { MatchResult result (λ s. absent_mark s ≡ mark) (λ d. d.given ≡ mark) }
     {
-        match Mark::new(mark) {
-            Some(mark) => Ok(Absent { mark }),
-            None => Err(Declined { given: mark }),
-        }
+        let mark = Mark::try_from(mark)?;
+        Ok(Absent { mark })
     }
 }
 
@@ -33,34 +31,21 @@ impl Store for Absent {
 
     ghost putting = { Prim.search rules };
 
-    fn find(&mut self, _key: &Key, buffer: &mut [u8]) -> FindAnswer {
-        if buffer.len() != VALUE_ROOM {
-            return FindAnswer {
-                outcome: FindOutcome::Refused,
-                first: None,
-            };
-        }
+    fn find(&mut self, _key: &Key, buffer: &mut [u8]) -> FindResult {
+        check_buffer(buffer)?;
         blank(buffer);
-        FindAnswer {
-            outcome: FindOutcome::Missing,
+        Ok(Answer {
+            value: None,
             first: None,
-        }
+        })
     }
 
-    fn put(&mut self, _key: &Key, value: &[u8]) -> PutAnswer {
-        if value.len() > VALUE_ROOM {
-            return PutAnswer {
-                outcome: PutOutcome::Refused,
-                first: None,
-            };
-        }
+    fn put(&mut self, _key: &Key, value: &[u8]) -> PutResult {
+        check_value(value)?;
         let fault = Fault {
             mark: self.mark,
             cause: Cause::Absent,
         };
-        PutAnswer {
-            outcome: PutOutcome::Failed,
-            first: Some(fault),
-        }
+        Err(StoreError::Failed(fault))
     }
 }

@@ -1,10 +1,10 @@
-use Rattle.std.proofs.Common.{◌≡◌, sym, ap, ◌∙◌}
+use Rattle.std.proofs.Common.{◌≡◌, ◌-◌, length, sym, ap, ◌∙◌, arith}
 use Rattle.std.specs.Option.{option_map}
 use Rattle.std.proofs.lemmas.Bool.{both_ways}
 use Rattle.entries.specs.Entries.{entry_of, value_of}
 use Rattle.log_store.specs.Contents.{log_entries, later, value_under, last_value}
 use Rattle.log_store.specs.Lasts.{under_own, under_other}
-use Rattle.log_store.specs.Appends.{entries_none}
+use Rattle.log_store.specs.Appends.{entries_none, rest_within}
 use Rattle.log_store.proofs.Steps.{passed, passed_rest, falls}
 use Rattle.log_store.proofs.walk.walk.Goals as goal
 use Rattle.log_store.proofs.walk.walk.Goals.{then-eq, else-eq}
@@ -34,10 +34,15 @@ loop-entry-preserved c =
       passed_rest bs rest next e c.in-Some.ensures c.rest-rest.ensures c.loop-entry.invariant.1,
     )
 
+pub overflow_sub-result : goal.overflow_sub-result
+overflow_sub-result c =
+    let n = entries_none c.loop-entry.rest.now (sym c.in_default.ensures) in
+    omega (arith, ap length (c.loop-entry.invariant.1 ∙ n.1), (rest_within c.args.bytes.now).0)
+
 pub returns : goal.returns
 returns c =
     let n = entries_none c.loop-entry.rest.now (sym c.in_default.ensures) in
     record {
       last = sym (c.loop-entry.invariant.0 ∙ ap (λ es. later (option_map value_of c.loop-entry.last) (last_value c.args.key.now es)) n.0);
-      rest = sym (c.loop-entry.invariant.1 ∙ n.1);
+      end = ap (λ xs. length c.args.bytes.now - length xs) (sym (c.loop-entry.invariant.1 ∙ n.1));
     }

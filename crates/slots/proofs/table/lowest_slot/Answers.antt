@@ -1,27 +1,18 @@
-use Rattle.std.proofs.Common.{length, sym, ap, ◌∙◌, arith}
-use Rattle.slots.specs.Table.{slot_count, slot_has}
-use Rattle.slots.specs.Lowest.{passed, found, ended, slot-within}
+use Rattle.std.proofs.Common.{sym, ◌∙◌, refl, arith, length, rules}
+use Rattle.std.proofs.lemmas.Iterator.{YieldsList-from_range}
+use Rattle.std.proofs.lemmas.Iterator.Adapters.{option_map_id}
+use Rattle.std.proofs.lemmas.Iterator.Search.{find_from_yields_List}
+use borrow.Author.Tests.{tests}
+use Rattle.slots.specs.Table.{slot_count}
+use Rattle.slots.proofs.Finding.{has_at, find_first}
 use Rattle.slots.proofs.table.lowest_slot.Goals as goal
-
-pub slot-requires : goal.slot-requires
-slot-requires c = slot-within (length c.args.bytes.now) c.loop-i.i (omega arith)
-
-pub loop-i-preserved : goal.loop-i-preserved
-loop-i-preserved c =
-    let bs = c.args.bytes.now in
-    let k = c.args.key.now in
-    let e = c.slot_count-i-end.ensures in
-    c.loop-i.invariant ∙ passed k bs (slot_count (length bs)) c.loop-i.i (omega arith) (ap (slot_has k) (sym c.slot.ensures.value) ∙ sym c.if-slot_has.ensures)
-
-pub returns-then-slot_has : goal.returns-then-slot_has
-returns-then-slot_has c =
-    let bs = c.args.bytes.now in
-    let k = c.args.key.now in
-    let e = c.slot_count-i-end.ensures in
-    sym (c.loop-i.invariant ∙ found k bs (slot_count (length bs)) c.loop-i.i (omega arith) (ap (slot_has k) (sym c.slot.ensures.value) ∙ sym c.if-slot_has.ensures))
 
 pub returns : goal.returns
 returns c =
+    let k = c.args.key.now in
     let bs = c.args.bytes.now in
-    let e = c.slot_count-i-end.ensures in
-    sym (c.loop-i.invariant ∙ ended c.args.key.now bs (slot_count (length bs)) c.loop-i.i (omega arith))
+    let n = slot_count (length bs) in
+    sym (option_map_id c.find.result) ∙ (find_from_yields_List (has_at k bs) _ _ c.find.result c.find.ensures.ran
+    (YieldsList-from_range 0 c.slot_count.result n refl (omega arith))
+    (λ x b q d. search (rules, tests))
+    ∙ find_first k bs n 0 (omega arith))

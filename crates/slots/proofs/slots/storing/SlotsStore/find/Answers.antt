@@ -1,18 +1,18 @@
-use Rattle.std.proofs.Common.{sym}
-use Rattle.slots.proofs.Calls.{lowest_fits, find_some, find_none}
+use Rattle.std.proofs.Common.{sym, refl}
+use Rattle.stores.proofs.Buffers.{buffer_fits}
+use Rattle.stores.proofs.LookUps.{look_up_some, look_up_none}
+use Rattle.slots.specs.Laws.{found_short}
 use Rattle.slots.proofs.slots.storing.SlotsStore.find.Goals as goal
 
-pub fill_from-size-requires : goal.fill_from-size-requires
-fill_from-size-requires c =
-    let f = lowest_fits c.args.key.now c.as_slice-bytes.result.now c.in-Some.i (sym c.in-Some.ensures) in
-    record { within = f.0; short = f.1; room = c.if-buffer-ne-VALUE_ROOM.false }
+pub fill-requires : goal.fill-requires
+fill-requires c =
+    record {
+      room = buffer_fits c.args.buffer.now c.in_ok-check_buffer.ensures;
+      short = found_short c.args.self.now c.args.key.now c.in-Some.value.now (sym c.in-Some.ensures);
+    }
 
-pub returns-in-Some : goal.returns-in-Some
-returns-in-Some c =
-    find_some c.args.self.now c.args.key.now c.args.buffer.now c.as_slice-bytes.result.now c.fill_from-size.new.buffer c.in-Some.i c.fill_from-size.result
-    c.as_slice-bytes.ensures.value (sym c.in-Some.ensures) c.fill_from-size.ensures.size c.fill_from-size.ensures.after c.if-buffer-ne-VALUE_ROOM.false
+pub returns-in_default : goal.returns-in_default
+returns-in_default c = look_up_none c.in_ok-check_buffer.ensures (sym c.in_default.ensures) c.blank.ensures
 
-pub returns-in-None : goal.returns-in-None
-returns-in-None c =
-    find_none c.args.self.now c.args.key.now c.args.buffer.now c.as_slice-bytes.result.now c.blank.new.buffer
-    c.as_slice-bytes.ensures.value (sym c.in-None.ensures) c.blank.ensures c.if-buffer-ne-VALUE_ROOM.false
+pub returns : goal.returns
+returns c = look_up_some c.in_ok-check_buffer.ensures (sym c.in-Some.ensures) refl c.fill.ensures
