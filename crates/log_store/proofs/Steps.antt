@@ -22,12 +22,6 @@ passed k bs rest next last e h en inv =
 pub passed_rest : (bs rest next : List ℕ) (e : Split Logged) → Some e ≡ read_entry rest → next ≡ e.rest → log_rest bs ≡ log_rest rest → log_rest bs ≡ log_rest next
 passed_rest bs rest next e h en inv = inv ∙ ((entries_some rest e (sym h)).1 ∙ ap log_rest (sym en))
 
-pub falls : (rest next : List ℕ) (e : Split Logged) → Some e ≡ read_entry rest → next ≡ e.rest → length next < length rest
-falls rest next e h en =
-    let p = (EntriesTrip.span rest e (sym h)).1 in
-    let l = ap length en in
-    omega arith
-
 -- what writing an entry at the front of bytes answers and leaves, by whether it fits
 module _ (k : Key) (v rest : List ℕ) (short : length v ≤ value_room) where
   fitting : fits_at (length (entry_bytes k v)) 0 rest ≡ leb (entry_size (length v)) (length rest)

@@ -7,7 +7,7 @@ ghost use Rattle.entries.specs.Blocks.{entry_size};
 ghost use Rattle.entries.specs.Entries.{value_of};
 ghost use Rattle.log_store.specs.Contents.{log_entries, log_rest, log_end, last_value, is_value, has_room, with_entry_first, appended, LogsRoundTrip, AppendsOne};
 
-use entries::{Entry, read_entry, write_entry};
+use entries::{Entries, Entry, write_entry};
 use keys::Key;
 
 /// What a walk over the entries of a log met.
@@ -26,7 +26,7 @@ pub(crate) fn walk<'a>(bytes: &'a [u8], key: &Key) -> Met<'a>
 {
     let mut rest = bytes;
     let mut last = None;
-    while let Some(entry) = read_entry(rest) {
+    for entry in Entries::new(bytes) {
         if entry.key() == *key {
             last = Some(entry);
         }

@@ -15,5 +15,5 @@ returns c =
     let k = c.args.key.now in
     let b = c.args.buffer.now in
     let e = seen s k c.as_slice.result.now _ _ c.as_slice.ensures.value c.walk.ensures.last c.in-Some.is in
-    look_up_some c.in_ok-check_buffer.ensures e c.value_len.ensures
+    look_up_some c.in_ok-check_buffer.ensures e c.value_len.ensures.value
     (filled_room s k (value_of c.in-Some.entry) b c.fill_value.new.into e (buffer_fits b c.in_ok-check_buffer.ensures) c.fill_value.ensures.after)
