@@ -1,22 +1,45 @@
-use Rattle.std.proofs.Common.{◌≡◌, ℕ, zero, suc, ◌+◌, ◌*◌, ◌/◌, ◌%◌, ◌<◌, true, ◌&&◌, eqb, List, [], ◌∷◌, ◌++◌, length, get_or, take, sym, refl, ap, ◌∙◌, arith}
+use Rattle.std.proofs.Common.{◌≡◌, ℕ, zero, suc, ◌+◌, ◌*◌, ◌/◌, ◌%◌, ◌<◌, true, ◌&&◌, eqb, List, [], ◌∷◌, map, length, get_or, sym, refl, ap, ◌∙◌, arith}
 use Rattle.std.specs.Int.Digits.{AllBelowBase}
+use Rattle.std.specs.Simd.{first_chunks}
 use Rattle.std.proofs.lemmas.Nat.{div_below, mod_below, div-mul-add, mod-mul-add}
 use Rattle.std.proofs.lemmas.Bool.{and_from, and_parts, eq-eqb, eqb-true}
 use Rattle.std.proofs.lemmas.Bool.Decides.{nat_tests}
 use Rattle.hexadecimal.specs.Hex.{hex, hex_digit, is_digit, are_digits, digit_value, unhex, writes_bytes}
 
--- two digits more are one byte more
-pub unhex_more : (cs : List ℕ) (i : ℕ) → 2 * i + 1 < length cs → unhex (take (2 * (i + 1)) cs) ≡ unhex (take (2 * i) cs) ++ (digit_value (get_or cs (2 * i) 0) * 16 + digit_value (get_or cs (2 * i + 1) 0)) ∷ []
-unhex_more [] i h = absurd (omega arith)
-unhex_more (c ∷ []) i h = absurd (omega arith)
-unhex_more (c ∷ d ∷ cs) zero h = refl
-unhex_more (c ∷ d ∷ cs) (suc i) h =
-    let a : 2 * (suc i + 1) ≡ suc (suc (2 * (i + 1))) = omega arith in
-    let b : 2 * suc i ≡ suc (suc (2 * i)) = omega arith in
-    let e : 2 * suc i + 1 ≡ suc (suc (2 * i + 1)) = omega arith in
-    let r = unhex_more cs i (omega arith) in
-    let x = digit_value c * 16 + digit_value d in
-    ap (λ n. unhex (take n (c ∷ d ∷ cs))) a ∙ (ap (λ ws. x ∷ ws) r ∙ sym (ap (λ n. unhex (take n (c ∷ d ∷ cs)) ++ (digit_value (get_or (c ∷ d ∷ cs) n 0) * 16 + digit_value (get_or (c ∷ d ∷ cs) (2 * suc i + 1) 0)) ∷ []) b ∙ ap (λ n. (x ∷ unhex (take (2 * i) cs)) ++ (digit_value (get_or cs (2 * i) 0) * 16 + digit_value (get_or (c ∷ d ∷ cs) n 0)) ∷ []) e))
+-- the byte that a pair of digits writes
+abbrev pub pair_byte : List ℕ → ℕ
+pair_byte p = digit_value (get_or p 0 0) * 16 + digit_value (get_or p 1 0)
+
+-- digits write the bytes of their pairs
+unhex_pairs : (n : ℕ) (cs : List ℕ) → length cs ≡ 2 * n → unhex cs ≡ map pair_byte (first_chunks 2 n cs)
+unhex_pairs zero [] l = refl
+unhex_pairs zero (c ∷ cs) l = absurd (omega arith)
+unhex_pairs (suc n) [] l = absurd (omega arith)
+unhex_pairs (suc n) (c ∷ []) l = absurd (omega arith)
+unhex_pairs (suc n) (c ∷ d ∷ cs) l = ap (λ bs. pair_byte (c ∷ d ∷ []) ∷ bs) (unhex_pairs n cs (omega arith))
+
+-- both of a pair are digits
+pair_digits : (n i : ℕ) (cs : List ℕ) → length cs ≡ 2 * n → are_digits cs ≡ true → i < n → (is_digit (get_or (get_or (first_chunks 2 n cs) i []) 0 0) ≡ true) × (is_digit (get_or (get_or (first_chunks 2 n cs) i []) 1 0) ≡ true)
+pair_digits zero i cs l t h = absurd (omega arith)
+pair_digits (suc n) i [] l t h = absurd (omega arith)
+pair_digits (suc n) i (c ∷ []) l t h = absurd (omega arith)
+pair_digits (suc n) zero (c ∷ d ∷ cs) l t h =
+    let p = and_parts (is_digit c) (is_digit d && are_digits cs) t in
+    (p.0, (and_parts (is_digit d) (are_digits cs) p.1).0)
+pair_digits (suc n) (suc i) (c ∷ d ∷ cs) l t h =
+    let p = and_parts (is_digit c) (is_digit d && are_digits cs) t in
+    pair_digits n i cs (omega arith) (and_parts (is_digit d) (are_digits cs) p.1).1 (omega arith)
+
+-- the same of the pairs that `as_chunks` gives
+pub pairs_write : (n : ℕ) (cs : List ℕ) (ps : List (List ℕ)) → ps ≡ first_chunks 2 (length cs / 2) cs → length cs ≡ 2 * n → unhex cs ≡ map pair_byte ps
+pairs_write n cs ps e l =
+    let m : length cs / 2 ≡ n = omega arith in
+    unhex_pairs n cs l ∙ ap (map pair_byte) (sym (e ∙ ap (λ k. first_chunks 2 k cs) m))
+
+pub pairs_digits : (n i : ℕ) (cs : List ℕ) (ps : List (List ℕ)) → ps ≡ first_chunks 2 (length cs / 2) cs → length cs ≡ 2 * n → are_digits cs ≡ true → i < n → (is_digit (get_or (get_or ps i []) 0 0) ≡ true) × (is_digit (get_or (get_or ps i []) 1 0) ≡ true)
+pairs_digits n i cs ps e l t h =
+    let m : length cs / 2 ≡ n = omega arith in
+    rw (e ∙ ap (λ k. first_chunks 2 k cs) m) (pair_digits n i cs l t h)
 
 pub value_small : (c : ℕ) → is_digit c ≡ true → digit_value c < 16
 value_small c t = grind (arith, nat_tests)
