@@ -2,15 +2,14 @@
 
 #![tactic(auto)]
 
-ghost use Rattle.std.specs.Prelude.{◌≡◌, ◌≢◌, ◌*◌, ◌↔◌, Some, None, length, is_ok, IsErrOf, IfOk, if◌then◌else◌, string_bytes};
+ghost use Rattle.std.specs.Prelude.{◌≡◌, ◌≢◌, ◌*◌, ◌↔◌, Some, None, false, length, is_ok, IsErrOf, IfOk, if◌then◌else◌, string_bytes};
 ghost use Rattle.hexadecimal.specs.Hex.{hex, is_digit, are_digits, digit_value, unhex, writes_bytes, HexRoundTrip};
 ghost use Rattle.hexadecimal.specs.declared.NotHex;
 
 use std::alloc::{AllocError, Global};
-use std::error::Error;
-use std::fmt;
 
 /// Two digits to each byte, the high one first.
+#[tactic(auto, using(crate::proofs::More::hex_more))]
 pub fn hex_text(heap: Global, bytes: &[u8]) -> Result<String, AllocError>
     ensures { IfOk result (λ t. string_bytes t ≡ hex bytes.now) }
 {
@@ -29,17 +28,6 @@ pub enum NotHex {
     /// A character is no digit 0 to 9 or a to f.
     Digit,
 }
-
-impl fmt::Display for NotHex {
-    fn fmt<W: fmt::Write>(&self, f: &mut fmt::Formatter<W>) -> fmt::Result {
-        f.write_str(match self {
-            NotHex::Length => "not two digits for each byte",
-            NotHex::Digit => "a character is no digit 0 to 9 or a to f",
-        })
-    }
-}
-
-impl Error for NotHex {}
 
 /// The number of a digit 0 to 9 or a to f; absent for another character.
 fn digit_value(c: u8) -> Option<u8>
@@ -64,6 +52,7 @@ fn are_digits(text: &[u8]) -> bool
 pub fn read_hex(text: &[u8], into: &mut [u8]) -> Result<(), NotHex>
     ensures answer { is_ok result ≡ writes_bytes (length into.old) text.now }
     ensures length { IsErrOf result NotHex.Length ↔ (length text.now ≢ 2 * length into.old) }
+    ensures digit { IsErrOf result NotHex.Digit ↔ ((length text.now ≡ 2 * length into.old) × (are_digits text.now ≡ false)) }
     ensures after { into.new ≡ (if writes_bytes (length into.old) text.now then unhex text.now else into.old) }
 {
     if text.len() != 2 * into.len() {
@@ -81,7 +70,7 @@ pub fn read_hex(text: &[u8], into: &mut [u8]) -> Result<(), NotHex>
 }
 
 /// Carries the theorem that bytes read back from their text, and that no other text writes them.
+#[tactic(auto, using(crate::proofs::Back::back, crate::proofs::Back::only))]
 pub fn hex_round_trip()
     ensures { HexRoundTrip }
-{
-}
+{}
