@@ -1,8 +1,8 @@
-use Rattle.std.proofs.Common.{◌≡◌, ℕ, zero, suc, ◌+◌, ◌*◌, ◌/◌, ◌%◌, ◌<◌, true, ◌&&◌, eqb, List, [], ◌∷◌, map, length, get_or, sym, refl, ap, ◌∙◌, arith}
+use Rattle.std.proofs.Common.{◌≡◌, ℕ, zero, suc, ◌+◌, ◌*◌, ◌/◌, ◌%◌, ◌<◌, true, List, [], ◌∷◌, map, length, get_or, sym, refl, ap, ◌∙◌, arith, rules}
 use Rattle.std.specs.Int.Digits.{AllBelowBase}
 use Rattle.std.specs.Simd.{first_chunks}
 use Rattle.std.proofs.lemmas.Nat.{div_below, mod_below, div-mul-add, mod-mul-add}
-use Rattle.std.proofs.lemmas.Bool.{and_from, and_parts, eq-eqb, eqb-true}
+use Rattle.std.proofs.lemmas.Bool.{and_from, eq-eqb, eqb-true}
 use Rattle.std.proofs.lemmas.Bool.Decides.{nat_tests}
 use Rattle.hexadecimal.specs.Hex.{hex, hex_digit, is_digit, are_digits, digit_value, unhex, writes_bytes}
 
@@ -24,11 +24,9 @@ pair_digits zero i cs l t h = absurd (omega arith)
 pair_digits (suc n) i [] l t h = absurd (omega arith)
 pair_digits (suc n) i (c ∷ []) l t h = absurd (omega arith)
 pair_digits (suc n) zero (c ∷ d ∷ cs) l t h =
-    let p = and_parts (is_digit c) (is_digit d && are_digits cs) t in
-    (p.0, (and_parts (is_digit d) (are_digits cs) p.1).0)
+    grind arith
 pair_digits (suc n) (suc i) (c ∷ d ∷ cs) l t h =
-    let p = and_parts (is_digit c) (is_digit d && are_digits cs) t in
-    pair_digits n i cs (omega arith) (and_parts (is_digit d) (are_digits cs) p.1).1 (omega arith)
+    pair_digits n i cs (omega arith) (grind arith) (omega arith)
 
 -- the same of the pairs that `as_chunks` gives
 pub pairs_write : (n : ℕ) (cs : List ℕ) (ps : List (List ℕ)) → ps ≡ first_chunks 2 (length cs / 2) cs → length cs ≡ 2 * n → unhex cs ≡ map pair_byte ps
@@ -62,43 +60,36 @@ digits_of (b ∷ bs) u =
     let lo = mod_below b 16 (omega arith) in
     let x = value_back (b / 16) hi in
     let y = value_back (b % 16) lo in
-    let v : digit_value (hex_digit (b / 16)) * 16 + digit_value (hex_digit (b % 16)) ≡ b = omega arith in
-    (omega (arith, r.0), (and_from _ _ (digit_good (b / 16) hi) (and_from _ _ (digit_good (b % 16) lo) r.1.0), ap (λ z. z ∷ unhex (hex bs)) v ∙ ap (λ zs. b ∷ zs) r.1.1))
+    let v = digit_good (b / 16) hi in
+    let w = digit_good (b % 16) lo in
+    (omega (arith, r.0), (search (rules, and_from), grind arith))
 
 pub back : (bs : List ℕ) → AllBelowBase 256 bs → (writes_bytes (length bs) (hex bs) ≡ true) × (unhex (hex bs) ≡ bs)
 back bs u =
     let d = digits_of bs u in
-    (and_from _ _ (eq-eqb (length (hex bs)) (2 * length bs) d.0) d.1.0, d.1.1)
+    (grind (arith, eq-eqb), d.1.1)
 
 text_back : (n : ℕ) (cs : List ℕ) → length cs ≡ 2 * n → are_digits cs ≡ true → hex (unhex cs) ≡ cs
 text_back n [] l t = refl
 text_back n (c ∷ []) l t = absurd (omega arith)
 text_back zero (c ∷ d ∷ cs) l t = absurd (omega arith)
 text_back (suc n) (c ∷ d ∷ cs) l t =
-    let p = and_parts (is_digit c) (is_digit d && are_digits cs) t in
-    let q = and_parts (is_digit d) (are_digits cs) p.1 in
-    let r = text_back n cs (omega arith) q.1 in
-    let m = value_small d q.0 in
-    let hi = ap hex_digit (div-mul-add (digit_value c) 16 (digit_value d) m) ∙ digit_back c p.0 in
-    let lo = ap hex_digit (mod-mul-add (digit_value c) 16 (digit_value d) m) ∙ digit_back d q.0 in
-    let byte = digit_value c * 16 + digit_value d in
-    ap (λ x. x ∷ hex_digit (byte % 16) ∷ hex (unhex cs)) hi ∙ (ap (λ x. c ∷ x ∷ hex (unhex cs)) lo ∙ ap (λ zs. c ∷ d ∷ zs) r)
+    let r = text_back n cs (omega arith) (grind arith) in
+    let m = value_small d (grind arith) in
+    grind (arith, div-mul-add, mod-mul-add, digit_back)
 
 pub only : (n : ℕ) (text : List ℕ) → writes_bytes n text ≡ true → hex (unhex text) ≡ text
 only n text t =
-    let p = and_parts (eqb (length text) (2 * n)) (are_digits text) t in
-    text_back n text (eqb-true (length text) (2 * n) p.0) p.1
+    text_back n text (grind (arith, eqb-true)) (grind arith)
 
 -- what digits write are bytes
 under_from : (cs : List ℕ) → are_digits cs ≡ true → AllBelowBase 256 (unhex cs)
 under_from [] t = tt
 under_from (c ∷ []) t = tt
 under_from (c ∷ d ∷ cs) t =
-    let p = and_parts (is_digit c) (is_digit d && are_digits cs) t in
-    let q = and_parts (is_digit d) (are_digits cs) p.1 in
-    let x = value_small c p.0 in
-    let y = value_small d q.0 in
-    (omega arith, under_from cs q.1)
+    let x = value_small c (grind arith) in
+    let y = value_small d (grind arith) in
+    (omega arith, under_from cs (grind arith))
 
 pub under_unhex : (n : ℕ) (text : List ℕ) → writes_bytes n text ≡ true → AllBelowBase 256 (unhex text)
-under_unhex n text t = under_from text (and_parts (eqb (length text) (2 * n)) (are_digits text) t).1
+under_unhex n text t = under_from text (grind arith)

@@ -4,4 +4,4 @@ use Rattle.std.proofs.lemmas.Grind.{common_steps}
 use Rattle.commands.proofs.read_action.Goals as goal
 
 pub returns : goal.returns
-returns c = grind (arith, common_steps, take_rest, take-map, drop-map, length-map)
+returns c = grind (arith, take_rest, take-map, drop-map, length-map)
