@@ -62,7 +62,7 @@ pub fn read_hex(text: &[u8], into: &mut [u8]) -> Result<(), NotHex>
         return Err(NotHex::Digit);
     }
     let (pairs, _) = text.as_chunks::<2>();
-    // after a `zip` with `into.iter_mut()` no proof knows what was written
+    // kept: by index, since after a `zip` with `into.iter_mut()` a proof knows nothing of the bytes
     for (i, [high, low]) in pairs.iter().enumerate() {
         into[i] = digit_value(*high).unwrap() * 16 + digit_value(*low).unwrap();
     }
