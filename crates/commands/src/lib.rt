@@ -2,20 +2,42 @@
 
 #![tactic(auto)]
 
-ghost use Rattle.std.specs.Prelude.{◌≡◌, ◌≤◌, [], ◌∷◌, map, length, string_bytes, MatchOption};
+ghost use Rattle.std.specs.Prelude.{◌≡◌, Some, None, map, length, string_bytes, nat_lt, if◌then◌else◌};
 ghost use Rattle.std.specs.Option.{option_map};
-ghost use Rattle.std.specs.Str.{bytes_eq};
 ghost use Rattle.commands.specs.Reading.{reading, is_option, first_option, read_files, read_digest, read_key, from_place, read_action, read_one_file, read_layout, read_list, read_cache, read_command, read_words};
+ghost use Rattle.commands.specs.Names.{NamesDigest, NamesLayout, misuse_text};
+
+use std::error::Error;
+use std::fmt;
+use std::str::FromStr;
+
+/// A name that is none of those there are.
+#[derive(Clone, Copy, Debug, PartialEq, Eq)]
+pub struct UnknownName;
 
 /// A digest, by the name that the option `--digest` gives it.
-#[derive(Clone, Copy)]
+#[derive(Clone, Copy, Debug, PartialEq, Eq)]
 pub enum DigestName {
     Fnv1a,
     Tally,
 }
 
+impl FromStr for DigestName {
+    type Err = UnknownName;
+
+    ghost from_str_gives = { NamesDigest };
+
+    fn from_str(name: &str) -> Result<Self, UnknownName> {
+        match name {
+            "fnv1a" => Ok(DigestName::Fnv1a),
+            "tally" => Ok(DigestName::Tally),
+            _ => Err(UnknownName),
+        }
+    }
+}
+
 /// What is done with one file.
-#[derive(Clone, Copy)]
+#[derive(Clone, Copy, Debug, PartialEq, Eq)]
 pub enum FileJob {
     /// Lists a cache file, whose layout its first byte tells.
     ListCache,
@@ -25,8 +47,23 @@ pub enum FileJob {
     ListLog,
 }
 
+/// The listing of a cache file, by the name that the option `--as` gives its layout.
+impl FromStr for FileJob {
+    type Err = UnknownName;
+
+    ghost from_str_gives = { NamesLayout };
+
+    fn from_str(layout: &str) -> Result<Self, UnknownName> {
+        match layout {
+            "slots" => Ok(FileJob::ListSlots),
+            "log" => Ok(FileJob::ListLog),
+            _ => Err(UnknownName),
+        }
+    }
+}
+
 /// What a command line asks for.
-#[derive(Clone, Copy)]
+#[derive(Clone, Copy, Debug, PartialEq, Eq)]
 pub enum Command<'a> {
     Help,
     Key {
@@ -45,7 +82,7 @@ pub enum Command<'a> {
 }
 
 /// What is wrong with a command line.
-#[derive(Clone, Copy)]
+#[derive(Clone, Copy, Debug, PartialEq, Eq)]
 pub enum Misuse<'a> {
     NoCommand,
     UnknownCommand(&'a str),
@@ -61,43 +98,57 @@ pub enum Misuse<'a> {
     OneFileOnly(&'a str),
 }
 
-/// Whether a word is a certain text.
-fn is(word: &str, text: &str) -> bool
-    ensures { result ≡ bytes_eq word.now text.now }
-{
-    word == text
+impl fmt::Display for Misuse<'_> {
+    ghost output = { λ m. Some (misuse_text m) };
+
+    fn fmt<W: fmt::Write>(&self, f: &mut fmt::Formatter<W>) -> fmt::Result {
+        match self {
+            Misuse::NoCommand => write!(f, "no command"),
+            Misuse::UnknownCommand(word) => write!(f, "there is no command '{word}'"),
+            Misuse::NoDigest => write!(f, "--digest wants a name, fnv1a or tally"),
+            Misuse::UnknownDigest(word) => {
+                write!(f, "there is no digest '{word}': fnv1a and tally are")
+            }
+            Misuse::StrayOption(word) => {
+                write!(
+                    f,
+                    "'{word}' is no option here; options stand before the files"
+                )
+            }
+            Misuse::NoFile => write!(f, "no file is named"),
+            Misuse::NoLetter => write!(f, "an action wants a letter, arguments, 'from' and keys"),
+            Misuse::NoFrom => write!(f, "an action wants 'from' before its keys"),
+            Misuse::Incomplete(word) => {
+                write!(f, "'{word}' wants another word, as in 'cache list'")
+            }
+            Misuse::NoLayout => write!(f, "--as wants a layout, slots or log"),
+            Misuse::UnknownLayout(word) => {
+                write!(f, "there is no layout '{word}': slots and log are")
+            }
+            Misuse::OneFileOnly(word) => {
+                write!(f, "one file at a time; '{word}' is one too many")
+            }
+        }
+    }
 }
 
-/// The first word and the words behind it; absent where there is none.
-fn split_first(words: &[String]) -> Option<(&str, &[String])>
-    ensures { MatchOption result (map string_bytes words.now ≡ []) (λ p. map string_bytes words.now ≡ p.0.now ∷ map string_bytes p.1.now) }
-{
-    if words.is_empty() {
-        return None;
-    }
-    Some((words[0].as_str(), &words[1..]))
-}
+impl Error for Misuse<'_> {}
 
 /// Whether a word is an option: it begins with two hyphens.
 fn is_option(word: &str) -> bool
     ensures { result ≡ is_option word.now }
 {
-    match word.as_bytes() {
-        [b'-', b'-', ..] => true,
-        _ => false,
-    }
+    word.starts_with("--")
 }
 
 /// The first word that is an option.
 fn first_option(words: &[String]) -> Option<&str>
     ensures { option_map (λ x. x.now) result ≡ first_option (map string_bytes words.now) }
 {
-    for word in words {
-        if is_option(word.as_str()) {
-            return Some(word.as_str());
-        }
-    }
-    None
+    words
+        .iter()
+        .map(|word| word.as_str())
+        .find(|word| is_option(word))
 }
 
 /// File names, none of which may look like an option.
@@ -117,15 +168,10 @@ fn read_files(digest: DigestName, files: &[String]) -> Result<Command<'_>, Misus
 fn read_digest(words: &[String]) -> Result<Command<'_>, Misuse<'_>>
     ensures { reading result ≡ read_digest (map string_bytes words.now) }
 {
-    let Some((name, files)) = split_first(words) else {
-        return Err(Misuse::NoDigest);
-    };
-    if is(name, "fnv1a") {
-        read_files(DigestName::Fnv1a, files)
-    } else if is(name, "tally") {
-        read_files(DigestName::Tally, files)
-    } else {
-        Err(Misuse::UnknownDigest(name))
+    let (name, files) = words.split_first().ok_or(Misuse::NoDigest)?;
+    match name.parse() {
+        Ok(digest) => read_files(digest, files),
+        Err(UnknownName) => Err(Misuse::UnknownDigest(name)),
     }
 }
 
@@ -133,43 +179,28 @@ fn read_digest(words: &[String]) -> Result<Command<'_>, Misuse<'_>>
 fn read_key(words: &[String]) -> Result<Command<'_>, Misuse<'_>>
     ensures { reading result ≡ read_key (map string_bytes words.now) }
 {
-    let Some((first, rest)) = split_first(words) else {
-        return Err(Misuse::NoFile);
-    };
-    if is(first, "--digest") {
-        read_digest(rest)
-    } else {
-        read_files(DigestName::Fnv1a, words)
+    match words {
+        [option, rest @ ..] if option.as_str() == "--digest" => read_digest(rest),
+        _ => read_files(DigestName::Fnv1a, words),
     }
 }
 
-/// How many words stand before the first `from`.
-fn from_place(words: &[String]) -> usize
-    ensures value { result ≡ from_place (map string_bytes words.now) }
-    ensures within { result ≤ length words.now }
+/// How many words stand before the first `from`; absent where there is none.
+fn from_place(words: &[String]) -> Option<usize>
+    ensures { result ≡ (if nat_lt (from_place (map string_bytes words.now)) (length words.now) then Some (from_place (map string_bytes words.now)) else None) }
 {
-    for (i, word) in words.iter().enumerate() {
-        if is(word.as_str(), "from") {
-            return i;
-        }
-    }
-    words.len()
+    words.iter().position(|word| word.as_str() == "from")
 }
 
 /// The words behind `action`: a letter, arguments up to the first `from`, and keys.
 fn read_action(words: &[String]) -> Result<Command<'_>, Misuse<'_>>
     ensures { reading result ≡ read_action (map string_bytes words.now) }
 {
-    let Some((letter, rest)) = split_first(words) else {
-        return Err(Misuse::NoLetter);
-    };
-    let place = from_place(rest);
-    if place >= rest.len() {
-        return Err(Misuse::NoFrom);
-    }
+    let (letter, rest) = words.split_first().ok_or(Misuse::NoLetter)?;
+    let place = from_place(rest).ok_or(Misuse::NoFrom)?;
     Ok(Command::Action {
         letter,
-        arguments: &rest[0..place],
+        arguments: &rest[..place],
         inputs: &rest[place + 1..],
     })
 }
@@ -181,28 +212,21 @@ fn read_one_file(job: FileJob, words: &[String]) -> Result<Command<'_>, Misuse<'
     if let Some(option) = first_option(words) {
         return Err(Misuse::StrayOption(option));
     }
-    let Some((file, rest)) = split_first(words) else {
-        return Err(Misuse::NoFile);
-    };
-    let Some((extra, _)) = split_first(rest) else {
-        return Ok(Command::OnFile { job, file });
-    };
-    Err(Misuse::OneFileOnly(extra))
+    match words {
+        [] => Err(Misuse::NoFile),
+        [file] => Ok(Command::OnFile { job, file }),
+        [_, extra, ..] => Err(Misuse::OneFileOnly(extra)),
+    }
 }
 
 /// The name of a layout, then a file.
 fn read_layout(words: &[String]) -> Result<Command<'_>, Misuse<'_>>
     ensures { reading result ≡ read_layout (map string_bytes words.now) }
 {
-    let Some((name, rest)) = split_first(words) else {
-        return Err(Misuse::NoLayout);
-    };
-    if is(name, "slots") {
-        read_one_file(FileJob::ListSlots, rest)
-    } else if is(name, "log") {
-        read_one_file(FileJob::ListLog, rest)
-    } else {
-        Err(Misuse::UnknownLayout(name))
+    let (name, rest) = words.split_first().ok_or(Misuse::NoLayout)?;
+    match name.parse() {
+        Ok(job) => read_one_file(job, rest),
+        Err(UnknownName) => Err(Misuse::UnknownLayout(name)),
     }
 }
 
@@ -210,13 +234,9 @@ fn read_layout(words: &[String]) -> Result<Command<'_>, Misuse<'_>>
 fn read_list(words: &[String]) -> Result<Command<'_>, Misuse<'_>>
     ensures { reading result ≡ read_list (map string_bytes words.now) }
 {
-    let Some((first, rest)) = split_first(words) else {
-        return Err(Misuse::NoFile);
-    };
-    if is(first, "--as") {
-        read_layout(rest)
-    } else {
-        read_one_file(FileJob::ListCache, words)
+    match words {
+        [option, rest @ ..] if option.as_str() == "--as" => read_layout(rest),
+        _ => read_one_file(FileJob::ListCache, words),
     }
 }
 
@@ -224,13 +244,10 @@ fn read_list(words: &[String]) -> Result<Command<'_>, Misuse<'_>>
 fn read_cache<'a>(name: &'a str, words: &'a [String]) -> Result<Command<'a>, Misuse<'a>>
     ensures { reading result ≡ read_cache name.now (map string_bytes words.now) }
 {
-    let Some((part, rest)) = split_first(words) else {
-        return Err(Misuse::Incomplete(name));
-    };
-    if is(part, "list") {
-        read_list(rest)
-    } else {
-        Err(Misuse::UnknownCommand(part))
+    let (part, rest) = words.split_first().ok_or(Misuse::Incomplete(name))?;
+    match part.as_str() {
+        "list" => read_list(rest),
+        _ => Err(Misuse::UnknownCommand(part)),
     }
 }
 
@@ -238,17 +255,12 @@ fn read_cache<'a>(name: &'a str, words: &'a [String]) -> Result<Command<'a>, Mis
 pub fn read_command(words: &[String]) -> Result<Command<'_>, Misuse<'_>>
     ensures { reading result ≡ read_command (map string_bytes words.now) }
 {
-    let Some((name, rest)) = split_first(words) else {
-        return Err(Misuse::NoCommand);
-    };
-    if is(name, "help") || is(name, "--help") {
-        Ok(Command::Help)
-    } else if is(name, "key") {
-        read_key(rest)
-    } else if is(name, "action") {
-        read_action(rest)
-    } else {
-        Err(Misuse::UnknownCommand(name))
+    let (name, rest) = words.split_first().ok_or(Misuse::NoCommand)?;
+    match name.as_str() {
+        "help" | "--help" => Ok(Command::Help),
+        "key" => read_key(rest),
+        "action" => read_action(rest),
+        _ => Err(Misuse::UnknownCommand(name)),
     }
 }
 
@@ -256,12 +268,8 @@ pub fn read_command(words: &[String]) -> Result<Command<'_>, Misuse<'_>>
 pub fn read_words(words: &[String]) -> Result<Command<'_>, Misuse<'_>>
     ensures { reading result ≡ read_words (map string_bytes words.now) }
 {
-    let Some((name, rest)) = split_first(words) else {
-        return Err(Misuse::NoCommand);
-    };
-    if is(name, "cache") {
-        read_cache(name, rest)
-    } else {
-        read_command(words)
+    match words {
+        [name, rest @ ..] if name.as_str() == "cache" => read_cache(name, rest),
+        _ => read_command(words),
     }
 }

@@ -1,22 +1,43 @@
-use Rattle.std.proofs.Common.{◌≡◌, ℕ, zero, suc, ◌+◌, ◌*◌, ◌/◌, ◌%◌, ◌<◌, true, ◌&&◌, eqb, List, [], ◌∷◌, ◌++◌, length, get_or, take, sym, refl, ap, ◌∙◌, arith}
+use Rattle.std.proofs.Common.{◌≡◌, ℕ, zero, suc, ◌+◌, ◌*◌, ◌/◌, ◌%◌, ◌<◌, true, List, [], ◌∷◌, map, length, get_or, sym, refl, ap, ◌∙◌, arith, rules}
 use Rattle.std.specs.Int.Digits.{AllBelowBase}
+use Rattle.std.specs.Simd.{first_chunks}
 use Rattle.std.proofs.lemmas.Nat.{div_below, mod_below, div-mul-add, mod-mul-add}
-use Rattle.std.proofs.lemmas.Bool.{and_from, and_parts, eq-eqb, eqb-true}
+use Rattle.std.proofs.lemmas.Bool.{and_from, eq-eqb, eqb-true}
 use Rattle.std.proofs.lemmas.Bool.Decides.{nat_tests}
 use Rattle.hexadecimal.specs.Hex.{hex, hex_digit, is_digit, are_digits, digit_value, unhex, writes_bytes}
 
--- two digits more are one byte more
-pub unhex_more : (cs : List ℕ) (i : ℕ) → 2 * i + 1 < length cs → unhex (take (2 * (i + 1)) cs) ≡ unhex (take (2 * i) cs) ++ (digit_value (get_or cs (2 * i) 0) * 16 + digit_value (get_or cs (2 * i + 1) 0)) ∷ []
-unhex_more [] i h = absurd (omega arith)
-unhex_more (c ∷ []) i h = absurd (omega arith)
-unhex_more (c ∷ d ∷ cs) zero h = refl
-unhex_more (c ∷ d ∷ cs) (suc i) h =
-    let a : 2 * (suc i + 1) ≡ suc (suc (2 * (i + 1))) = omega arith in
-    let b : 2 * suc i ≡ suc (suc (2 * i)) = omega arith in
-    let e : 2 * suc i + 1 ≡ suc (suc (2 * i + 1)) = omega arith in
-    let r = unhex_more cs i (omega arith) in
-    let x = digit_value c * 16 + digit_value d in
-    ap (λ n. unhex (take n (c ∷ d ∷ cs))) a ∙ (ap (λ ws. x ∷ ws) r ∙ sym (ap (λ n. unhex (take n (c ∷ d ∷ cs)) ++ (digit_value (get_or (c ∷ d ∷ cs) n 0) * 16 + digit_value (get_or (c ∷ d ∷ cs) (2 * suc i + 1) 0)) ∷ []) b ∙ ap (λ n. (x ∷ unhex (take (2 * i) cs)) ++ (digit_value (get_or cs (2 * i) 0) * 16 + digit_value (get_or (c ∷ d ∷ cs) n 0)) ∷ []) e))
+-- the byte that a pair of digits writes
+abbrev pub pair_byte : List ℕ → ℕ
+pair_byte p = digit_value (get_or p 0 0) * 16 + digit_value (get_or p 1 0)
+
+-- digits write the bytes of their pairs
+unhex_pairs : (n : ℕ) (cs : List ℕ) → length cs ≡ 2 * n → unhex cs ≡ map pair_byte (first_chunks 2 n cs)
+unhex_pairs zero [] l = refl
+unhex_pairs zero (c ∷ cs) l = absurd (omega arith)
+unhex_pairs (suc n) [] l = absurd (omega arith)
+unhex_pairs (suc n) (c ∷ []) l = absurd (omega arith)
+unhex_pairs (suc n) (c ∷ d ∷ cs) l = ap (λ bs. pair_byte (c ∷ d ∷ []) ∷ bs) (unhex_pairs n cs (omega arith))
+
+-- both of a pair are digits
+pair_digits : (n i : ℕ) (cs : List ℕ) → length cs ≡ 2 * n → are_digits cs ≡ true → i < n → (is_digit (get_or (get_or (first_chunks 2 n cs) i []) 0 0) ≡ true) × (is_digit (get_or (get_or (first_chunks 2 n cs) i []) 1 0) ≡ true)
+pair_digits zero i cs l t h = absurd (omega arith)
+pair_digits (suc n) i [] l t h = absurd (omega arith)
+pair_digits (suc n) i (c ∷ []) l t h = absurd (omega arith)
+pair_digits (suc n) zero (c ∷ d ∷ cs) l t h =
+    grind arith
+pair_digits (suc n) (suc i) (c ∷ d ∷ cs) l t h =
+    pair_digits n i cs (omega arith) (grind arith) (omega arith)
+
+-- the same of the pairs that `as_chunks` gives
+pub pairs_write : (n : ℕ) (cs : List ℕ) (ps : List (List ℕ)) → ps ≡ first_chunks 2 (length cs / 2) cs → length cs ≡ 2 * n → unhex cs ≡ map pair_byte ps
+pairs_write n cs ps e l =
+    let m : length cs / 2 ≡ n = omega arith in
+    unhex_pairs n cs l ∙ ap (map pair_byte) (sym (e ∙ ap (λ k. first_chunks 2 k cs) m))
+
+pub pairs_digits : (n i : ℕ) (cs : List ℕ) (ps : List (List ℕ)) → ps ≡ first_chunks 2 (length cs / 2) cs → length cs ≡ 2 * n → are_digits cs ≡ true → i < n → (is_digit (get_or (get_or ps i []) 0 0) ≡ true) × (is_digit (get_or (get_or ps i []) 1 0) ≡ true)
+pairs_digits n i cs ps e l t h =
+    let m : length cs / 2 ≡ n = omega arith in
+    rw (e ∙ ap (λ k. first_chunks 2 k cs) m) (pair_digits n i cs l t h)
 
 pub value_small : (c : ℕ) → is_digit c ≡ true → digit_value c < 16
 value_small c t = grind (arith, nat_tests)
@@ -39,43 +60,36 @@ digits_of (b ∷ bs) u =
     let lo = mod_below b 16 (omega arith) in
     let x = value_back (b / 16) hi in
     let y = value_back (b % 16) lo in
-    let v : digit_value (hex_digit (b / 16)) * 16 + digit_value (hex_digit (b % 16)) ≡ b = omega arith in
-    (omega (arith, r.0), (and_from _ _ (digit_good (b / 16) hi) (and_from _ _ (digit_good (b % 16) lo) r.1.0), ap (λ z. z ∷ unhex (hex bs)) v ∙ ap (λ zs. b ∷ zs) r.1.1))
+    let v = digit_good (b / 16) hi in
+    let w = digit_good (b % 16) lo in
+    (omega (arith, r.0), (search (rules, and_from), grind arith))
 
 pub back : (bs : List ℕ) → AllBelowBase 256 bs → (writes_bytes (length bs) (hex bs) ≡ true) × (unhex (hex bs) ≡ bs)
 back bs u =
     let d = digits_of bs u in
-    (and_from _ _ (eq-eqb (length (hex bs)) (2 * length bs) d.0) d.1.0, d.1.1)
+    (grind (arith, eq-eqb), d.1.1)
 
 text_back : (n : ℕ) (cs : List ℕ) → length cs ≡ 2 * n → are_digits cs ≡ true → hex (unhex cs) ≡ cs
 text_back n [] l t = refl
 text_back n (c ∷ []) l t = absurd (omega arith)
 text_back zero (c ∷ d ∷ cs) l t = absurd (omega arith)
 text_back (suc n) (c ∷ d ∷ cs) l t =
-    let p = and_parts (is_digit c) (is_digit d && are_digits cs) t in
-    let q = and_parts (is_digit d) (are_digits cs) p.1 in
-    let r = text_back n cs (omega arith) q.1 in
-    let m = value_small d q.0 in
-    let hi = ap hex_digit (div-mul-add (digit_value c) 16 (digit_value d) m) ∙ digit_back c p.0 in
-    let lo = ap hex_digit (mod-mul-add (digit_value c) 16 (digit_value d) m) ∙ digit_back d q.0 in
-    let byte = digit_value c * 16 + digit_value d in
-    ap (λ x. x ∷ hex_digit (byte % 16) ∷ hex (unhex cs)) hi ∙ (ap (λ x. c ∷ x ∷ hex (unhex cs)) lo ∙ ap (λ zs. c ∷ d ∷ zs) r)
+    let r = text_back n cs (omega arith) (grind arith) in
+    let m = value_small d (grind arith) in
+    grind (arith, div-mul-add, mod-mul-add, digit_back)
 
 pub only : (n : ℕ) (text : List ℕ) → writes_bytes n text ≡ true → hex (unhex text) ≡ text
 only n text t =
-    let p = and_parts (eqb (length text) (2 * n)) (are_digits text) t in
-    text_back n text (eqb-true (length text) (2 * n) p.0) p.1
+    text_back n text (grind (arith, eqb-true)) (grind arith)
 
 -- what digits write are bytes
 under_from : (cs : List ℕ) → are_digits cs ≡ true → AllBelowBase 256 (unhex cs)
 under_from [] t = tt
 under_from (c ∷ []) t = tt
 under_from (c ∷ d ∷ cs) t =
-    let p = and_parts (is_digit c) (is_digit d && are_digits cs) t in
-    let q = and_parts (is_digit d) (are_digits cs) p.1 in
-    let x = value_small c p.0 in
-    let y = value_small d q.0 in
-    (omega arith, under_from cs q.1)
+    let x = value_small c (grind arith) in
+    let y = value_small d (grind arith) in
+    (omega arith, under_from cs (grind arith))
 
 pub under_unhex : (n : ℕ) (text : List ℕ) → writes_bytes n text ≡ true → AllBelowBase 256 (unhex text)
-under_unhex n text t = under_from text (and_parts (eqb (length text) (2 * n)) (are_digits text) t).1
+under_unhex n text t = under_from text (grind arith)

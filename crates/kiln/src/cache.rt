@@ -1,69 +1,56 @@
 //! `kiln cache list`: the pairs of a cache file.
 
+use crate::fault::{Fault, FileFault};
 use crate::files::read_up_to;
-use anyhow::anyhow;
 use caches::{log_listing, looks_like_log, slots_listing};
+use commands::FileJob;
 use keys::Fnv1a;
-use slots::{SLOT, Slots};
+use slots::Slots;
 
 /// The most bytes of a log, which are more than a table of slots uses.
-const MOST: usize = 65536;
-
-/// The bytes of a cache file, up to one more than any cache uses; it is said where they cannot be read.
-fn cache_bytes(rt: &HostRuntime, file: &str) -> anyhow::Result<Vec<u8>> {
-    match read_up_to(rt, file, MOST as u64 + 1) {
-        Ok(bytes) => Ok(bytes),
-        Err(e) => {
-            eprintln!(rt; "kiln: {file}: {e}")?;
-            Err(anyhow!("the cache file is not read"))
-        }
-    }
-}
+pub const MOST: usize = 65536;
 
 /// Prints the pairs of a table of slots.
-fn show_slots(rt: &HostRuntime, file: &str, bytes: Vec<u8>) -> anyhow::Result<()> {
+fn show_slots<'a>(rt: &HostRuntime, name: &'a str, bytes: Vec<u8>) -> Result<(), Fault<'a>> {
     let len = bytes.len();
     let Ok(store) = Slots::new(bytes) else {
-        eprintln!(rt;
-            "kiln: {file}: {len} bytes are too few for a cache of slots, which has {SLOT} or more"
-        )?;
-        return Err(anyhow!("there is no slot"));
+        return Err(Fault::File {
+            name,
+            reason: FileFault::NoSlot { len },
+        });
     };
     let count = store.count();
     let listing = slots_listing::<Fnv1a>(rt.alloc(), &store)?;
-    print!(rt; "{file}: {count} slots\n{listing}")?;
+    print!(rt; "{name}: {count} slots\n{listing}")?;
     Ok(())
 }
 
 /// Prints the pairs of a log.
-fn show_log(rt: &HostRuntime, file: &str, bytes: &[u8]) -> anyhow::Result<()> {
+fn show_log<'a>(rt: &HostRuntime, name: &'a str, bytes: &[u8]) -> Result<(), Fault<'a>> {
     let len = bytes.len();
     if len > MOST {
-        eprintln!(rt; "kiln: {file}: too long for a log, which has up to {MOST} bytes")?;
-        return Err(anyhow!("the log is too long"));
+        return Err(Fault::File {
+            name,
+            reason: FileFault::LongLog,
+        });
     }
     let listing = log_listing::<Fnv1a>(rt.alloc(), bytes)?;
-    print!(rt; "{file}: a log of {len} bytes\n{listing}")?;
+    print!(rt; "{name}: a log of {len} bytes\n{listing}")?;
     Ok(())
 }
 
-/// Lists a cache of slots.
-pub fn list_slots(rt: &HostRuntime, file: &str) -> anyhow::Result<()> {
-    let bytes = cache_bytes(rt, file)?;
-    show_slots(rt, file, bytes)
-}
-
-/// Lists a cache that is a log.
-pub fn list_log(rt: &HostRuntime, file: &str) -> anyhow::Result<()> {
-    let bytes = cache_bytes(rt, file)?;
-    show_log(rt, file, bytes.as_slice())
-}
-
-/// Lists a cache whose layout its first byte tells.
-pub fn list_cache(rt: &HostRuntime, file: &str) -> anyhow::Result<()> {
-    let bytes = cache_bytes(rt, file)?;
-    if looks_like_log(bytes.as_slice()) {
-        return show_log(rt, file, bytes.as_slice());
+/// Lists a cache file in the layout that is asked for, or in the one that its first byte tells.
+pub fn list<'a>(rt: &HostRuntime, job: FileJob, name: &'a str) -> Result<(), Fault<'a>> {
+    // one byte more than any cache uses shows a file that is too long
+    let bytes = read_up_to(rt, name, MOST as u64 + 1)?;
+    let is_log = match job {
+        FileJob::ListCache => looks_like_log(bytes.as_slice()),
+        FileJob::ListSlots => false,
+        FileJob::ListLog => true,
+    };
+    if is_log {
+        show_log(rt, name, bytes.as_slice())
+    } else {
+        show_slots(rt, name, bytes)
     }
-    show_slots(rt, file, bytes)
 }

@@ -3,11 +3,12 @@
 #![tactic(auto)]
 
 mod cache;
+mod fault;
 mod files;
 
 use actions::{Action, Argument};
-use anyhow::anyhow;
-use commands::{Command, DigestName, FileJob, Misuse, read_words};
+use commands::{Command, DigestName, read_words};
+use fault::{Fault, FileFault};
 use files::read_up_to;
 use keys::{Digest, Fnv1a, Key, Tally};
 use listing::{action_lines, key_from_text, key_line};
@@ -31,191 +32,111 @@ usage:
   kiln help
       prints this text
 
-A file whose name begins with two hyphens is given as ./--NAME.
-";
+A file whose name begins with two hyphens is given as ./--NAME.";
 
 /// The words behind the program's name.
 fn words(rt: &HostRuntime) -> io::Result<Vec<String>> {
-    let mut words = Vec::new(rt.alloc());
-    for word in env::args(rt)?.skip(1) {
-        words.push(word)?;
-    }
-    Ok(words)
+    Ok(env::args(rt)?.skip(1).collect(rt.alloc())?)
 }
 
-/// Prints the key of a file, or why it has none; answers whether it has one.
-fn show_key<D: Digest>(rt: &HostRuntime, name: &str) -> io::Result<bool> {
+/// Says what is wrong.
+fn say(rt: &HostRuntime, fault: &Fault<'_>) -> io::Result<()> {
+    eprintln!(rt; "kiln: {fault}")
+}
+
+/// The line of a file's key.
+fn file_line<'a, D: Digest>(rt: &HostRuntime, name: &'a str) -> Result<String, Fault<'a>> {
     let most = D::LONGEST;
-    let bytes = match read_up_to(rt, name, u64::from(most) + 1) {
-        Ok(bytes) => bytes,
-        Err(e) => {
-            eprintln!(rt; "kiln: {name}: {e}")?;
-            return Ok(false);
-        }
-    };
-    match key_line::<D>(rt.alloc(), bytes.as_slice(), name)? {
-        Some(line) => {
-            println!(rt; "{line}")?;
-            Ok(true)
-        }
-        None => {
-            eprintln!(rt;
-                "kiln: {name}: too long for this digest, which takes up to {most} bytes"
-            )?;
-            Ok(false)
-        }
-    }
+    let bytes = read_up_to(rt, name, u64::from(most) + 1)?;
+    let line = key_line::<D>(rt.alloc(), bytes.as_slice(), name)?;
+    line.ok_or(Fault::File {
+        name,
+        reason: FileFault::TooLong { most },
+    })
 }
 
-/// Prints the key of each file; an error at the end where some have none.
-fn show_keys<D: Digest>(rt: &HostRuntime, files: &[String]) -> anyhow::Result<()> {
+/// Prints the key of each file, or why it has none.
+fn show_keys<'a, D: Digest>(rt: &HostRuntime, files: &'a [String]) -> Result<(), Fault<'a>> {
     let mut failed: usize = 0;
     for name in files {
-        if !show_key::<D>(rt, name.as_str())? {
-            failed = failed.saturating_add(1);
+        match file_line::<D>(rt, name.as_str()) {
+            Ok(line) => println!(rt; "{line}")?,
+            Err(Fault::System(error)) => return Err(Fault::System(error)),
+            Err(fault) => {
+                say(rt, &fault)?;
+                failed = failed.saturating_add(1);
+            }
         }
     }
     if failed > 0 {
         let all = files.len();
-        eprintln!(rt; "kiln: no key for {failed} of {all} files")?;
-        return Err(anyhow!("some files have no key"));
+        return Err(Fault::NoKeys { failed, all });
     }
     Ok(())
 }
 
-/// The arguments that some words are; absent, and it is said, where one is none.
-fn read_arguments(rt: &HostRuntime, words: &[String]) -> io::Result<Option<Vec<Argument>>> {
-    let mut arguments = Vec::new(rt.alloc());
-    for word in words {
-        let Some(argument) = Argument::new(word.as_bytes()) else {
-            let name = word.as_str();
-            eprintln!(rt;
-                "kiln: '{name}' is no argument: 1 to 16 bytes, without spaces or control bytes"
-            )?;
-            return Ok(None);
-        };
-        arguments.push(argument)?;
-    }
-    Ok(Some(arguments))
-}
-
-/// The keys that some words are; absent, and it is said, where one is none.
-fn read_keys(rt: &HostRuntime, words: &[String]) -> io::Result<Option<Vec<Key>>> {
-    let mut keys = Vec::new(rt.alloc());
-    for word in words {
-        let Some(key) = key_from_text(word.as_bytes()) else {
-            let name = word.as_str();
-            eprintln!(rt;
-                "kiln: '{name}' is no key: 72 digits 0 to 9 and a to f, as kiln key prints them"
-            )?;
-            return Ok(None);
-        };
-        keys.push(key)?;
-    }
-    Ok(Some(keys))
-}
-
-/// The letter that a word is, or a byte that is none.
-fn letter_of(word: &str) -> u8 {
+/// The letter that a word is.
+fn letter_of(word: &str) -> Option<u8> {
     match word.as_bytes() {
-        [letter] => *letter,
-        _ => 0,
+        [letter] => Some(*letter),
+        _ => None,
     }
 }
 
-/// Prints the text of an action and its key, or what is wrong with its words.
-fn show_action(
+/// Prints the text of an action and its key.
+fn show_action<'a>(
     rt: &HostRuntime,
-    letter: &str,
-    arguments: &[String],
-    inputs: &[String],
-) -> anyhow::Result<()> {
-    let Some(arguments) = read_arguments(rt, arguments)? else {
-        return Err(anyhow!("an argument is wrong"));
-    };
-    let Some(keys) = read_keys(rt, inputs)? else {
-        return Err(anyhow!("a key is wrong"));
-    };
-    let made = Action::new(letter_of(letter), arguments.as_slice(), keys.as_slice());
-    let Some(action) = made else {
-        eprintln!(rt; "kiln: an action has a letter A to Z, up to 2 arguments and 1 to 4 keys")?;
-        return Err(anyhow!("there is no such action"));
-    };
+    letter: &'a str,
+    arguments: &'a [String],
+    inputs: &'a [String],
+) -> Result<(), Fault<'a>> {
+    let arguments: Vec<Argument> = arguments
+        .iter()
+        .map(|word| Argument::new(word.as_bytes()).ok_or(Fault::NoArgument(word.as_str())))
+        .try_collect(rt.alloc())?;
+    let keys: Vec<Key> = inputs
+        .iter()
+        .map(|word| key_from_text(word.as_bytes()).ok_or(Fault::NoKey(word.as_str())))
+        .try_collect(rt.alloc())?;
+    let action = letter_of(letter)
+        .and_then(|letter| Action::new(letter, arguments.as_slice(), keys.as_slice()))
+        .ok_or(Fault::NoAction)?;
     let lines = action_lines::<Fnv1a>(rt.alloc(), &action)?;
     println!(rt; "{lines}")?;
     Ok(())
 }
 
-/// Says what is wrong with the command line.
-fn explain(rt: &HostRuntime, misuse: Misuse) -> io::Result<()> {
-    match misuse {
-        Misuse::NoCommand => eprintln!(rt; "kiln: no command"),
-        Misuse::UnknownCommand(word) => eprintln!(rt; "kiln: there is no command '{word}'"),
-        Misuse::NoDigest => eprintln!(rt; "kiln: --digest wants a name, fnv1a or tally"),
-        Misuse::UnknownDigest(word) => {
-            eprintln!(rt; "kiln: there is no digest '{word}': fnv1a and tally are")
-        }
-        Misuse::StrayOption(word) => eprintln!(rt;
-            "kiln: '{word}' is no option here; options stand before the files"
-        ),
-        Misuse::NoFile => eprintln!(rt; "kiln: no file is named"),
-        Misuse::NoLetter => eprintln!(rt;
-            "kiln: an action wants a letter, arguments, 'from' and keys"
-        ),
-        Misuse::NoFrom => eprintln!(rt; "kiln: an action wants 'from' before its keys"),
-        Misuse::Incomplete(word) => {
-            eprintln!(rt; "kiln: '{word}' wants another word, as in 'cache list'")
-        }
-        Misuse::NoLayout => eprintln!(rt; "kiln: --as wants a layout, slots or log"),
-        Misuse::UnknownLayout(word) => {
-            eprintln!(rt; "kiln: there is no layout '{word}': slots and log are")
-        }
-        Misuse::OneFileOnly(word) => {
-            eprintln!(rt; "kiln: one file at a time; '{word}' is one too many")
-        }
-    }
-}
-
-/// Does what is asked with one file.
-fn on_file(rt: &HostRuntime, job: FileJob, file: &str) -> anyhow::Result<()> {
-    match job {
-        FileJob::ListCache => cache::list_cache(rt, file),
-        FileJob::ListSlots => cache::list_slots(rt, file),
-        FileJob::ListLog => cache::list_log(rt, file),
-    }
-}
-
-fn run(rt: &HostRuntime) -> anyhow::Result<()> {
-    let words = words(rt)?;
-    match read_words(words.as_slice()) {
-        Ok(Command::Help) => {
-            print!(rt; "{USAGE}")?;
+/// Does what some words ask for.
+fn run<'a>(rt: &HostRuntime, words: &'a [String]) -> Result<(), Fault<'a>> {
+    match read_words(words).map_err(Fault::Misuse)? {
+        Command::Help => {
+            println!(rt; "{USAGE}")?;
             Ok(())
         }
-        Ok(Command::Key { digest, files }) => match digest {
+        Command::Key { digest, files } => match digest {
             DigestName::Fnv1a => show_keys::<Fnv1a>(rt, files),
             DigestName::Tally => show_keys::<Tally>(rt, files),
         },
-        Ok(
-            Command::Action {
-                letter,
-                arguments,
-                inputs,
-            },
-        ) => show_action(rt, letter, arguments, inputs),
-        Ok(Command::OnFile { job, file }) => on_file(rt, job, file),
-        Err(misuse) => {
-            explain(rt, misuse)?;
-            eprint!(rt; "{USAGE}")?;
-            Err(anyhow!("the command line is not understood"))
-        }
+        Command::Action {
+            letter,
+            arguments,
+            inputs,
+        } => show_action(rt, letter, arguments, inputs),
+        Command::OnFile { job, file } => cache::list(rt, job, file),
     }
 }
 
 fn main(rt: HostRuntime) -> ExitCode {
-    match run(&rt) {
+    let Ok(words) = words(&rt) else {
+        return ExitCode::FAILURE;
+    };
+    match run(&rt, words.as_slice()) {
         Ok(()) => ExitCode::SUCCESS,
-        // what is wrong was said where it was met
-        Err(_) => ExitCode::FAILURE,
+        Err(Fault::System(_)) => ExitCode::FAILURE,
+        Err(fault) => {
+            // where standard error fails too, nobody can be told
+            let _ = say(&rt, &fault);
+            ExitCode::FAILURE
+        }
     }
 }

@@ -38,13 +38,9 @@ pub fn key_line<D: Digest>(
 ) -> Result<Option<String>, AllocError>
     ensures { IfOk result (λ line. option_map string_bytes line ≡ option_map (key_line name.now) (key_of D.LONGEST D.words bytes.now)) }
 {
-    match key_of::<D>(bytes) {
-        None => Ok(None),
-        Some(key) => {
-            let line = line_of(heap, &key, name)?;
-            Ok(Some(line))
-        }
-    }
+    key_of::<D>(bytes)
+        .map(|key| line_of(heap, &key, name))
+        .transpose()
 }
 
 /// The key that a text is the text of; absent for a text of another form.
@@ -52,9 +48,7 @@ pub fn key_from_text(text: &[u8]) -> Option<Key>
     ensures { result ≡ read_key_text text.now }
 {
     let mut bytes = [0u8; Key::SIZE];
-    if !read_hex(text, &mut bytes) {
-        return None;
-    }
+    read_hex(text, &mut bytes).ok()?;
     Key::read(&bytes)
 }
 
@@ -69,8 +63,7 @@ pub fn action_lines<D: Digest>(heap: Global, action: &Action) -> Result<String, 
 }
 
 /// Carries the theorem that keys read back from their texts, and that no other texts read as them.
-pub fn key_texts_round_trip() -> u8
+#[tactic(auto, using(crate::proofs::Texts::back, crate::proofs::Texts::only))]
+pub fn key_texts_round_trip()
     ensures { KeyTextsRoundTrip }
-{
-    0
-}
+{}

@@ -3,25 +3,13 @@
 #![tactic(auto)]
 
 mod damaged;
-mod score;
 
-use anyhow::anyhow;
-use score::Score;
-
-fn run(rt: &HostRuntime) -> anyhow::Result<()> {
-    let mut score = Score {
-        tried: 0,
-        failed: 0,
-    };
-    damaged::try_damaged_stores(rt, &mut score)?;
-    let Score { tried, failed } = score;
-    println!(rt; "{tried} cases, {failed} failed")?;
-    if failed > 0 {
-        return Err(anyhow!("a case failed"));
-    }
-    Ok(())
-}
+use score::{self, Score};
 
 fn main(rt: HostRuntime) -> anyhow::Result<()> {
-    run(&rt)
+    let mut score = Score::new();
+    damaged::try_damaged_stores(&rt, &mut score)?;
+    println!(rt; "{score}")?;
+    score.verdict()?;
+    Ok(())
 }

@@ -1,8 +1,8 @@
 //! Digests: published vectors, sums worked out by hand, the longest inputs.
 
-use crate::score::Score;
 use keys::{Digest, Fnv1a, Tally, key_of};
-use std::io;
+use score::Score;
+use std::{fmt, io};
 
 /// Texts with the first word of their digest, as the authors of FNV published them.
 const FNV1A: [(&[u8], u64); 24] = [
@@ -40,30 +40,19 @@ const TALLY: [(&[u8], u64, u64); 4] = [
     (b"dad", 297, 594),
 ];
 
-fn try_fnv1a(rt: &HostRuntime, score: &mut Score) -> io::Result<()> {
-    for (text, hash) in FNV1A {
-        let count = text.len();
-        let good = match key_of::<Fnv1a>(text) {
-            Some(key) => key.words() == [hash, 0, 0, 0] && key.count() as usize == count,
-            None => false,
-        };
-        let word = score.count(good);
-        println!(rt; "{word} fnv1a {hash:016x} of {count} bytes")?;
-    }
-    Ok(())
-}
-
-fn try_tally(rt: &HostRuntime, score: &mut Score) -> io::Result<()> {
-    for (text, sum, weighted) in TALLY {
-        let count = text.len();
-        let good = match key_of::<Tally>(text) {
-            Some(key) => key.words() == [sum, weighted, 0, 0] && key.count() as usize == count,
-            None => false,
-        };
-        let word = score.count(good);
-        println!(rt; "{word} tally {sum} {weighted} of {count} bytes")?;
-    }
-    Ok(())
+/// Tries that a text has a key of certain words under a digest.
+fn try_words<D: Digest>(
+    rt: &HostRuntime,
+    score: &mut Score,
+    text: &[u8],
+    words: [u64; 4],
+    shown: &impl fmt::Display,
+) -> io::Result<()> {
+    let count = text.len();
+    let good = key_of::<D>(text).is_some_and(|key| key.words() == words
+        && key.count() as usize == count);
+    let word = score.count(good);
+    println!(rt; "{word} {shown} of {count} bytes")
 }
 
 /// The longest input has a key, and one byte more has none.
@@ -80,8 +69,14 @@ fn try_longest<D: Digest>(rt: &HostRuntime, score: &mut Score, name: &str) -> an
 
 /// Tries all of these.
 pub fn try_digests(rt: &HostRuntime, score: &mut Score) -> anyhow::Result<()> {
-    try_fnv1a(rt, score)?;
-    try_tally(rt, score)?;
+    for (text, hash) in FNV1A {
+        let shown = format_args!("fnv1a {hash:016x}");
+        try_words::<Fnv1a>(rt, score, text, [hash, 0, 0, 0], &shown)?;
+    }
+    for (text, sum, weighted) in TALLY {
+        let shown = format_args!("tally {sum} {weighted}");
+        try_words::<Tally>(rt, score, text, [sum, weighted, 0, 0], &shown)?;
+    }
     try_longest::<Fnv1a>(rt, score, "fnv1a")?;
     try_longest::<Tally>(rt, score, "tally")
 }

@@ -1,12 +1,13 @@
 //! Formats: the worked examples of docs/FORMATS.md, and what readers answer to damaged bytes.
 
-use crate::score::Score;
 use actions::{Action, Argument};
-use anyhow::anyhow;
+use anyhow::Context;
 use entries::{entry_size, read_entry, write_entry};
 use hexadecimal::hex_text;
 use keys::{Fnv1a, Key, key_of};
 use records::{read_result, write_result};
+use score::Score;
+use std::alloc::{AllocError, Global};
 
 const UPPER: &str =
     "015503af63dc4c8601ec8c0000000000000000000000000000000000000000000000000000000100";
@@ -21,10 +22,7 @@ const ENTRY: &str =
 
 /// The key of a short text.
 fn key(text: &[u8]) -> anyhow::Result<Key> {
-    match key_of::<Fnv1a>(text) {
-        Some(key) => Ok(key),
-        None => Err(anyhow!("too long")),
-    }
+    key_of::<Fnv1a>(text).context("too long")
 }
 
 /// Whether bytes are those that a text of digits writes.
@@ -35,10 +33,7 @@ fn is_hex(rt: &HostRuntime, bytes: &[u8], digits: &str) -> anyhow::Result<bool> 
 
 /// An action of these parts.
 fn action(letter: u8, arguments: &[Argument], inputs: &[Key]) -> anyhow::Result<Action> {
-    match Action::new(letter, arguments, inputs) {
-        Some(action) => Ok(action),
-        None => Err(anyhow!("no action")),
-    }
+    Action::new(letter, arguments, inputs).context("no action")
 }
 
 /// Tries that an action has a text of that size and those digits, and reads back from it.
@@ -53,7 +48,7 @@ fn try_action(
     let size = bytes.len();
     let same = is_hex(rt, bytes, digits)?;
     let word = score.count(same && Action::read(bytes).is_some());
-    let cut = score.count(size > 0 && Action::read(&bytes[0..size - 1]).is_none());
+    let cut = score.count(matches!(bytes, [front @ .., _] if Action::read(front).is_none()));
     println!(rt; "{word} an action text of {size} bytes reads back")?;
     println!(rt; "{cut} one byte less does not")?;
     Ok(())
@@ -68,36 +63,33 @@ struct Damaged {
 }
 
 /// Changes each byte of an action text in turn: it then reads as nothing, or as another action of just that text.
-fn damage(text: &mut [u8]) -> Damaged {
+fn damage(heap: Global, text: &[u8]) -> Result<Damaged, AllocError> {
     let mut seen = Damaged {
         refused: 0,
         other: 0,
         good: true,
     };
-    for i in 0..text.len() {
-        text[i] ^= 1;
-        match Action::read(text) {
+    for (place, byte) in text.iter().enumerate() {
+        let mut damaged = Vec::from_slice(heap, text)?;
+        damaged[place] = *byte ^ 1;
+        match Action::read(damaged.as_slice()) {
             None => seen.refused = seen.refused.saturating_add(1),
             Some(changed) => {
                 seen.other = seen.other.saturating_add(1);
-                let whole = changed.text();
-                seen.good = seen.good && whole.as_slice() == &text[..];
+                seen.good = seen.good && changed.text().as_slice() == damaged.as_slice();
             }
         }
-        text[i] ^= 1;
     }
-    seen
+    Ok(seen)
 }
 
 fn try_damaged(rt: &HostRuntime, score: &mut Score, action: &Action) -> anyhow::Result<()> {
-    let mut room = [0u8; Action::LONGEST];
-    let Some(size) = action.write(&mut room) else {
-        return Err(anyhow!("no room for a text"));
-    };
-    let seen = damage(&mut room[0..size]);
-    let word = score.count(seen.good);
-    let refused = seen.refused;
-    let other = seen.other;
+    let Damaged {
+        refused,
+        other,
+        good,
+    } = damage(rt.alloc(), action.text().as_slice())?;
+    let word = score.count(good);
     println!(rt;
         "{word} damaged in one byte: {refused} read as nothing, {other} as another action"
     )?;
@@ -110,10 +102,7 @@ fn try_result(rt: &HostRuntime, score: &mut Score) -> anyhow::Result<()> {
     let mut room = [0u8; 38];
     let written = write_result(&key, &mut room) == Some(37);
     let same = is_hex(rt, &room[0..37], RESULT)?;
-    let back = match read_result(&room[0..37]) {
-        Some(read) => read == key,
-        None => false,
-    };
+    let back = read_result(&room[0..37]) == Some(key);
     let word = score.count(written && same && back);
     println!(rt; "{word} a result record of 37 bytes reads back")?;
     let longer = score.count(read_result(&room).is_none());
@@ -130,10 +119,9 @@ fn try_entry(rt: &HostRuntime, score: &mut Score) -> anyhow::Result<()> {
     let mut room = [255u8; 80];
     let written = write_entry(&key, value, &mut room) == Some(74);
     let same = is_hex(rt, &room[0..74], ENTRY)?;
-    let back = match read_entry(&room) {
-        Some(entry) => entry.key() == key && entry.has_value(value) && entry.rest().len() == 6,
-        None => false,
-    };
+    let back = read_entry(&room).is_some_and(|entry| {
+        entry.key() == key && entry.has_value(value) && entry.rest().len() == 6
+    });
     let word = score.count(written && same && back);
     println!(rt; "{word} a log entry of 74 bytes reads back")?;
     room[73] = 1;
@@ -174,10 +162,8 @@ fn try_making(rt: &HostRuntime, score: &mut Score) -> anyhow::Result<()> {
 /// Tries all of these.
 pub fn try_formats(rt: &HostRuntime, score: &mut Score) -> anyhow::Result<()> {
     let keys = [key(b"a")?, key(b"b")?];
-    let Some(gain) = Argument::new(b"gain") else {
-        return Err(anyhow!("no argument"));
-    };
-    let upper = action(b'U', &[], &keys[0..1])?;
+    let gain = Argument::new(b"gain").context("no argument")?;
+    let upper = action(b'U', &[], &keys[..1])?;
     let keep = action(b'K', &[gain], &keys)?;
     try_action(rt, score, &upper, UPPER)?;
     try_action(rt, score, &keep, KEEP)?;

@@ -4,26 +4,14 @@
 
 mod digests;
 mod formats;
-mod score;
 
-use anyhow::anyhow;
 use score::Score;
 
-fn run(rt: &HostRuntime) -> anyhow::Result<()> {
-    let mut score = Score {
-        tried: 0,
-        failed: 0,
-    };
-    digests::try_digests(rt, &mut score)?;
-    formats::try_formats(rt, &mut score)?;
-    let Score { tried, failed } = score;
-    println!(rt; "{tried} cases, {failed} failed")?;
-    if failed > 0 {
-        return Err(anyhow!("a case failed"));
-    }
-    Ok(())
-}
-
 fn main(rt: HostRuntime) -> anyhow::Result<()> {
-    run(&rt)
+    let mut score = Score::new();
+    digests::try_digests(&rt, &mut score)?;
+    formats::try_formats(&rt, &mut score)?;
+    println!(rt; "{score}")?;
+    score.verdict()?;
+    Ok(())
 }

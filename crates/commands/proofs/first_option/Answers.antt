@@ -1,19 +1,12 @@
-use Rattle.std.proofs.Common.{map, string_bytes, sym, ap, ◌∙◌, arith}
-use Rattle.std.proofs.lemmas.List.{at_drop_all}
-use Rattle.commands.specs.Reading.{first_option, is_option}
-use Rattle.commands.proofs.First.{passed, found}
+use Rattle.std.proofs.Common.{◌∙◌, map, sym, string_bytes, rules}
+use borrow.Author.Tests.{tests}
+use Rattle.std.proofs.lemmas.Iterator.{YieldsList-from_slice, YieldsList-from_map_by}
+use Rattle.std.proofs.lemmas.Iterator.Search.{find_from_yields_List}
+use Rattle.commands.specs.Reading.{is_option}
+use Rattle.commands.proofs.First.{first_option_is_find}
 use Rattle.commands.proofs.first_option.Goals as goal
-
-pub loop-word-preserved : goal.loop-word-preserved
-loop-word-preserved c =
-    passed c.args.words.now c.loop-word.word-index c.word-item.result (omega arith) c.word-item.is
-    (ap is_option (sym c.as_str.ensures.value) ∙ sym c.if-is_option.ensures) c.loop-word.invariant
-
-pub returns-then-is_option : goal.returns-then-is_option
-returns-then-is_option c =
-    found c.args.words.now c.loop-word.word-index c.word-item.result (omega arith) c.word-item.is
-    (ap is_option (sym c.as_str.ensures.value) ∙ sym c.if-is_option.ensures) c.loop-word.invariant c.as_str-then-is_option.ensures.value
 
 pub returns : goal.returns
 returns c =
-    sym (c.loop-word.invariant ∙ at_drop_all (λ ws. first_option (map string_bytes ws)) c.args.words.now c.loop-word.word-index (omega arith))
+    let y = YieldsList-from_map_by _ (λ r. r.now) string_bytes (YieldsList-from_slice c.args.words.now cc) c.map.ensures.closure (λ x r q k. search (rules, tests)) in
+    find_from_yields_List is_option _ _ c.find.result c.find.ensures.ran y (λ x b q k. search (rules, tests)) ∙ sym (first_option_is_find (map string_bytes c.args.words.now))

@@ -1,7 +1,7 @@
-use Rattle.std.proofs.Common.{◌≡◌, ◌*◌, take}
-use Rattle.hexadecimal.specs.Hex.{unhex}
+use Rattle.std.proofs.Common.{◌≡◌, map, take}
+use Rattle.hexadecimal.proofs.Back.{pair_byte}
 use Rattle.hexadecimal.proofs.read_hex.Given as goal
 
--- the first i bytes are written
+-- the bytes of the pairs so far are written
 abbrev pub invariant-loop-i : goal.invariant-loop-i
-invariant-loop-i l = take l.i l.into ≡ unhex (take (2 * l.i) l.text)
+invariant-loop-i l = take l.i l.into ≡ map pair_byte (take l.i l.pairs)
