@@ -1,6 +1,6 @@
 //! Stores over damaged bytes: what still reads is found, what does not is missing, and puts go on.
 
-use crate::score::Score;
+use score::Score;
 use anyhow::Context;
 use keys::{Fnv1a, Key, key_of};
 use lists::are_zeros;

@@ -4,7 +4,7 @@
 
 mod damaged;
 
-use score::{self, Score};
+use score::Score;
 
 fn main(rt: HostRuntime) -> anyhow::Result<()> {
     let mut score = Score::new();
