@@ -31,12 +31,13 @@ pub record PutDone : Type 0 where
   pub answer : PutNumbers
   pub bytes : List ℕ
 
--- a put is kept with nothing written where the last entry of the key has that value, else with an entry appended; without room for the entry it fails and writes nothing
+-- what a put comes to, by whether the last entry of the key has that value and whether an entry has room
 abbrev pub put_by : Log → Key → List ℕ → Bool → Bool → PutDone
 put_by s k v true fits = record { answer = record { answer = 1; first = no_fault }; bytes = bytes_of s }
 put_by s k v false true = record { answer = record { answer = 1; first = no_fault }; bytes = appended k v (bytes_of s) }
 put_by s k v false false = record { answer = record { answer = 3; first = no_room s }; bytes = bytes_of s }
 
+-- a put is kept with nothing written where the last entry of the key has that value, else with an entry appended; without room for the entry it fails and writes nothing
 abbrev pub put_done : Log → Key → List ℕ → PutDone
 put_done s k v = put_by s k v (is_value v (value_found s k)) (has_room v (bytes_of s))
 
