@@ -1,10 +1,10 @@
 //! Stores over damaged bytes: what still reads is found, what does not is missing, and puts go on.
 
-use score::Score;
 use anyhow::Context;
 use keys::{Fnv1a, Key, key_of};
 use lists::are_zeros;
 use log_store::Log;
+use score::Score;
 use slots::{SLOT, Slots};
 use stores::Store;
 use stores::store::VALUE_ROOM;
