@@ -1,4 +1,4 @@
-use Rattle.std.proofs.Common.{◌≡◌, ℕ, ◌-◌, ◌≤◌, ◌==◌, nat_le, Ok, List, [], length, replicate, ap, ◌∙◌, arith}
+use Rattle.std.proofs.Common.{◌≡◌, ℕ, ◌-◌, ◌≤◌, ◌==◌, Ok, List, [], length, replicate, ap, ◌∙◌, arith}
 use Rattle.std.proofs.lemmas.List.{length-append, length-replicate}
 use Rattle.keys.specs.Digests.{value_room}
 use Rattle.stores.specs.Numbers.{refused_unless, padded}
@@ -19,6 +19,3 @@ length-padded v h =
 -- a buffer and a value that were not refused
 pub buffer_fits : (buffer : List ℕ) → Ok tt ≡ refused_unless (length buffer == value_room) → length buffer ≡ value_room
 buffer_fits buffer h = grind arith
-
-pub value_fits : (value : List ℕ) → Ok tt ≡ refused_unless (nat_le (length value) value_room) → length value ≤ value_room
-value_fits value h = grind arith
