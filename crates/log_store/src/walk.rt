@@ -2,13 +2,14 @@
 
 ghost use Rattle.std.specs.Prelude.{◌≡◌, ◌≤◌, length, if◌then◌else◌, is_some, nat_le};
 ghost use Rattle.std.specs.Option.{option_map};
-ghost use Rattle.keys.specs.Digests.{value_room};
+ghost use Rattle.stores.specs.Values.{value_bytes};
 ghost use Rattle.entries.specs.Blocks.{entry_size};
 ghost use Rattle.entries.specs.Entries.{value_of};
 ghost use Rattle.log_store.specs.Contents.{log_entries, log_rest, log_end, last_value, is_value, has_room, with_entry_first, appended, LogsRoundTrip, AppendsOne};
 
 use entries::{Entries, Entry, write_entry};
 use keys::Key;
+use stores::Value;
 
 /// What a walk over the entries of a log met.
 #[derive(Clone, Copy)]
@@ -48,12 +49,11 @@ impl Met<'_> {
 }
 
 /// Writes an entry at the front of some bytes and a zero behind it; absent where it does not fit, and nothing is written.
-fn put_first(rest: &mut [u8], key: &Key, value: &[u8]) -> Option<()>
-    requires { length value.now ≤ value_room }
-    ensures answer { is_some result ≡ nat_le (entry_size (length value.now)) (length rest.old) }
-    ensures after { rest.new ≡ (if is_some result then with_entry_first key.now value.now rest.old else rest.old) }
+fn put_first(rest: &mut [u8], key: &Key, value: &Value<'_>) -> Option<()>
+    ensures answer { is_some result ≡ nat_le (entry_size (length (value_bytes value.now))) (length rest.old) }
+    ensures after { rest.new ≡ (if is_some result then with_entry_first key.now (value_bytes value.now) rest.old else rest.old) }
 {
-    let size = write_entry(key, value, rest)?;
+    let size = write_entry(key, value.as_bytes(), rest)?;
     if size < rest.len() {
         rest[size] = 0;
     }
@@ -61,11 +61,10 @@ fn put_first(rest: &mut [u8], key: &Key, value: &[u8]) -> Option<()>
 }
 
 /// Appends an entry at the end of a log; absent where it does not fit, and nothing is written.
-pub(crate) fn append(bytes: &mut [u8], end: usize, key: &Key, value: &[u8]) -> Option<()>
-    requires short { length value.now ≤ value_room }
-    requires place { end ≡ log_end bytes.old }
-    ensures answer { is_some result ≡ has_room value.now bytes.old }
-    ensures after { bytes.new ≡ (if is_some result then appended key.now value.now bytes.old else bytes.old) }
+pub(crate) fn append(bytes: &mut [u8], end: usize, key: &Key, value: &Value<'_>) -> Option<()>
+    requires { end ≡ log_end bytes.old }
+    ensures answer { is_some result ≡ has_room (value_bytes value.now) bytes.old }
+    ensures after { bytes.new ≡ (if is_some result then appended key.now (value_bytes value.now) bytes.old else bytes.old) }
 {
     put_first(&mut bytes[end..], key, value)
 }

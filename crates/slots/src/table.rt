@@ -4,12 +4,13 @@ ghost use Rattle.std.specs.Prelude.{◌≡◌, ◌+◌, ◌*◌, ◌≤◌, fals
 ghost use Rattle.std.specs.Option.{option_map, option_map_or};
 ghost use Rattle.keys.specs.Digests.{value_room};
 ghost use Rattle.stores.specs.Numbers.{padded};
+ghost use Rattle.stores.specs.Values.{value_bytes};
 ghost use Rattle.slots.specs.Table.{slot_size, slot_count, slot_at, slot_length, slot_bytes, with_slot, read_slot, pair_key, pair_value, is_taken, is_damaged, slot_has, lowest_slot};
 
 use keys::Key;
 use numbers::{read_number, write_number};
-use stores::blank;
 use stores::store::VALUE_ROOM;
+use stores::{Value, blank};
 
 const LENGTH_AT: usize = 1 + Key::SIZE;
 
@@ -52,7 +53,7 @@ impl<'a> Slot<'a> {
     fn length(&self) -> u64
         ensures { result ≡ slot_length self.now.bytes.now }
     {
-        read_number(&self.bytes[LENGTH_AT..VALUE_AT]).unwrap_or(0)
+        read_number(&self.bytes[LENGTH_AT..VALUE_AT]).unwrap()
     }
 
     /// Whether the slot is taken.
@@ -126,25 +127,23 @@ pub(crate) fn fill(room: &mut [u8], value: &[u8])
 }
 
 /// Writes a pair into a slot, zeros behind its value.
-fn fill_slot(slot: &mut [u8], key: &Key, value: &[u8])
-    requires whole { length slot.old ≡ slot_size }
-    requires short { length value.now ≤ value_room }
-    ensures { slot.new ≡ slot_bytes key.now value.now }
+fn fill_slot(slot: &mut [u8], key: &Key, value: &Value<'_>)
+    requires { length slot.old ≡ slot_size }
+    ensures { slot.new ≡ slot_bytes key.now (value_bytes value.now) }
 {
     let (flag, rest) = slot.split_at_mut(1);
     let (name, rest) = rest.split_at_mut(Key::SIZE);
     let (size, room) = rest.split_at_mut(4);
     flag[0] = 1;
     name.copy_from_slice(&key.to_bytes());
-    write_number(size, value.len() as u64);
-    fill(room, value);
+    write_number(size, value.as_bytes().len() as u64);
+    fill(room, value.as_bytes());
 }
 
 /// Overwrites a slot of a table with a pair.
-pub(crate) fn write_slot(bytes: &mut [u8], i: usize, key: &Key, value: &[u8])
-    requires within { i * slot_size + slot_size ≤ length bytes.old }
-    requires short { length value.now ≤ value_room }
-    ensures { bytes.new ≡ with_slot i key.now value.now bytes.old }
+pub(crate) fn write_slot(bytes: &mut [u8], i: usize, key: &Key, value: &Value<'_>)
+    requires { i * slot_size + slot_size ≤ length bytes.old }
+    ensures { bytes.new ≡ with_slot i key.now (value_bytes value.now) bytes.old }
 {
     fill_slot(&mut bytes[i * SLOT..i * SLOT + SLOT], key, value);
 }

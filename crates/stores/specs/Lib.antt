@@ -3,3 +3,4 @@ pub mod Model
 pub mod LookUps
 pub mod Absents
 pub mod Texts
+pub mod Values

@@ -6,8 +6,10 @@ pub mod absent;
 pub mod answers;
 pub mod mark;
 pub mod store;
+pub mod value;
 
 pub use self::absent::Absent;
 pub use self::answers::{Answer, Cause, Declined, Fault, FindResult, PutResult, StoreError};
 pub use self::mark::Mark;
-pub use self::store::{Store, blank, check_buffer, check_value};
+pub use self::store::{Store, blank, check_buffer};
+pub use self::value::Value;

@@ -42,16 +42,6 @@ pub fn check_buffer(buffer: &[u8]) -> Result<(), StoreError>
     Ok(())
 }
 
-/// Refuses a value that is longer than its room.
-pub fn check_value(value: &[u8]) -> Result<(), StoreError>
-    ensures { result ≡ refused_unless (nat_le (length value.now) value_room) }
-{
-    if value.len() > VALUE_ROOM {
-        return Err(StoreError::Refused);
-    }
-    Ok(())
-}
-
 /// Fills a slice with zeros.
 pub fn blank(buffer: &mut [u8])
     ensures { buffer.new ≡ replicate (length buffer.old) 0 }

@@ -9,8 +9,8 @@ use super::Log;
 use crate::walk::{append, walk};
 use keys::Key;
 use stores::{
-    Answer, Cause, Declined, Fault, FindResult, Mark, PutResult, Store, StoreError, blank,
-    check_buffer, check_value,
+    Answer, Cause, Declined, Fault, FindResult, Mark, PutResult, Store, StoreError, Value, blank,
+    check_buffer,
 };
 
 /// The most bytes of a log.
@@ -77,13 +77,13 @@ impl Store for Log {
     }
 
     fn put(&mut self, key: &Key, value: &[u8]) -> PutResult {
-        check_value(value)?;
+        let value = Value::try_from(value)?;
         let kept = Answer {
             value: (),
             first: None,
         };
         let met = walk(self.bytes.as_slice(), key);
-        if met.ends_with(value) {
+        if met.ends_with(value.as_bytes()) {
             return Ok(kept);
         }
         let end = met.end;
@@ -91,7 +91,7 @@ impl Store for Log {
             mark: self.mark,
             cause: Cause::NoRoom,
         };
-        match append(self.bytes.as_mut_slice(), end, key, value) {
+        match append(self.bytes.as_mut_slice(), end, key, &value) {
             Some(()) => Ok(kept),
             None => Err(StoreError::Failed(no_room)),
         }

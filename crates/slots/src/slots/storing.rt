@@ -9,7 +9,7 @@ ghost use Rattle.slots.specs.Laws.{held_means, find_means, put_means};
 use super::Slots;
 use crate::table::{SLOT, fill, lowest_slot, slot_count, write_slot};
 use keys::Key;
-use stores::{Answer, Declined, FindResult, PutResult, Store, blank, check_buffer, check_value};
+use stores::{Answer, Declined, FindResult, PutResult, Store, Value, blank, check_buffer};
 
 impl Slots {
     /// The store over these bytes, as they are; declined where they have no slot, and they come back.
@@ -85,9 +85,9 @@ impl Store for Slots {
     }
 
     fn put(&mut self, key: &Key, value: &[u8]) -> PutResult {
-        check_value(value)?;
+        let value = Value::try_from(value)?;
         let place = self.choose(key);
-        write_slot(self.bytes.as_mut_slice(), place, key, value);
+        write_slot(self.bytes.as_mut_slice(), place, key, &value);
         Ok(Answer {
             value: (),
             first: None,

@@ -8,7 +8,8 @@ ghost use Rattle.std.proofs.Common.{rules};
 use super::Absent;
 use crate::answers::{Answer, Cause, Declined, Fault, FindResult, PutResult, StoreError};
 use crate::mark::Mark;
-use crate::store::{Store, blank, check_buffer, check_value};
+use crate::store::{Store, blank, check_buffer};
+use crate::value::Value;
 use keys::Key;
 
 impl Absent {
@@ -41,7 +42,7 @@ impl Store for Absent {
     }
 
     fn put(&mut self, _key: &Key, value: &[u8]) -> PutResult {
-        check_value(value)?;
+        let _ = Value::try_from(value)?;
         let fault = Fault {
             mark: self.mark,
             cause: Cause::Absent,

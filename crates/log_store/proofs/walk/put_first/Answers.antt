@@ -3,15 +3,18 @@ use Rattle.log_store.proofs.walk.put_first.Goals as goal
 
 pub returns-in_err-size : goal.returns-in_err-size
 returns-in_err-size c =
-    let r = front_none c.args.key.now c.args.value.now c.args.rest.now c.requires c.write_entry.new.into c.in_err-size.ensures.answer c.write_entry.ensures.after in
-    rw c.from_residual.ensures (record { answer = r.0; after = r.1 })
+    let v = c.as_bytes.ensures in
+    let r = front_none c.args.key.now c.as_bytes.result.now c.args.rest.now v.short c.write_entry.new.into c.in_err-size.ensures.answer c.write_entry.ensures.after in
+    rw (c.from_residual.ensures, ← v.value) (record { answer = r.0; after = r.1 })
 
 pub returns-then-size-rest : goal.returns-then-size-rest
 returns-then-size-rest c =
-    let r = front_stopped c.args.key.now c.args.value.now c.args.rest.now c.requires c.write_entry.new.into c.in_ok-size.size c.in_ok-size.ensures.answer c.write_entry.ensures.after c.if-size-rest.true in
-    record { answer = r.0; after = r.1 }
+    let v = c.as_bytes.ensures in
+    let r = front_stopped c.args.key.now c.as_bytes.result.now c.args.rest.now v.short c.write_entry.new.into c.in_ok-size.size c.in_ok-size.ensures.answer c.write_entry.ensures.after c.if-size-rest.true in
+    rw (← v.value) (record { answer = r.0; after = r.1 })
 
 pub returns-else-size-rest : goal.returns-else-size-rest
 returns-else-size-rest c =
-    let r = front_full c.args.key.now c.args.value.now c.args.rest.now c.requires c.write_entry.new.into c.in_ok-size.size c.in_ok-size.ensures.answer c.write_entry.ensures.after c.if-size-rest.false in
-    record { answer = r.0; after = r.1 }
+    let v = c.as_bytes.ensures in
+    let r = front_full c.args.key.now c.as_bytes.result.now c.args.rest.now v.short c.write_entry.new.into c.in_ok-size.size c.in_ok-size.ensures.answer c.write_entry.ensures.after c.if-size-rest.false in
+    rw (← v.value) (record { answer = r.0; after = r.1 })
