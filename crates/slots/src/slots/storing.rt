@@ -23,6 +23,7 @@ impl Slots {
         Ok(Slots { bytes, cursor: 0 })
     }
 
+    // kept: as a log has it; a trait for one line of two types would be longer than both
     /// The bytes of the store, to be kept in a file.
     pub fn into_bytes(self) -> Vec<u8>
         ensures { result ≡ self.bytes }
