@@ -3,9 +3,9 @@ use Rattle.std.specs.List.{flat_map}
 use Rattle.keys.specs.Digests.{key_of}
 use Rattle.keys.specs.Keys.{same_key}
 use Rattle.keys.specs.declared.key.Key.{Key}
+use Rattle.keys.specs.Texts.{key_text}
 use Rattle.records.specs.declared.kind.Kind.TheVariants.{LogHead}
 use Rattle.records.specs.Records.{kind_number}
-use Rattle.listing.specs.Lines.{key_text}
 use Rattle.slots.specs.Table.{slot_count, Pair, pair_at, is_damaged_at}
 use Rattle.entries.specs.Entries.{Logged}
 use Rattle.log_store.specs.Contents.{log_entries, log_rest, log_end}

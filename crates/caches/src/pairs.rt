@@ -1,10 +1,9 @@
 //! Pairs as text.
 
 ghost use Rattle.std.specs.Prelude.{◌≡◌, IfOk, string_bytes};
-ghost use Rattle.caches.specs.Listings.{is_own_key, own_word, in_columns, pair_text};
+ghost use Rattle.caches.specs.Listings.{is_own_key, own_word, pair_text};
 
 use keys::{Digest, Key, key_of};
-use listing::key_text;
 use std::alloc::{AllocError, Global};
 
 /// Whether a key is the key of a value under a digest.
@@ -25,13 +24,6 @@ fn own_word<D: Digest>(key: &Key, value: &[u8]) -> &'static str
     }
 }
 
-/// A text, a number and a word, two spaces apart.
-fn in_columns(heap: Global, text: &str, n: usize, word: &str) -> Result<String, AllocError>
-    ensures { IfOk result (λ t. string_bytes t ≡ in_columns text.now n word.now) }
-{
-    format!(in heap; "{text}  {n}  {word}")
-}
-
 /// A pair as text: its key, its length, whether the key is that of the value.
 pub(crate) fn pair_text<D: Digest>(
     heap: Global,
@@ -40,7 +32,7 @@ pub(crate) fn pair_text<D: Digest>(
 ) -> Result<String, AllocError>
     ensures { IfOk result (λ t. string_bytes t ≡ pair_text D.LONGEST D.words key.now value.now) }
 {
-    let text = key_text(heap, key)?;
+    let size = value.len();
     let word = own_word::<D>(key, value);
-    in_columns(heap, text.as_str(), value.len(), word)
+    format!(in heap; "{key}  {size}  {word}")
 }

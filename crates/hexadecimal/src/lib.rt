@@ -2,22 +2,42 @@
 
 #![tactic(auto)]
 
-ghost use Rattle.std.specs.Prelude.{◌≡◌, ◌≢◌, ◌*◌, ◌↔◌, Some, None, false, length, is_ok, IsErrOf, IfOk, if◌then◌else◌, string_bytes};
+ghost use Rattle.std.specs.Prelude.{◌≡◌, ◌≢◌, ◌*◌, ◌↔◌, [], ◌∷◌, Some, None, false, length, is_ok, IsErrOf, IfOk, if◌then◌else◌, string_bytes};
+ghost use Rattle.std.specs.Fmt.{WritesOnOk};
 ghost use Rattle.hexadecimal.specs.Hex.{hex, is_digit, are_digits, digit_value, unhex, writes_bytes, HexRoundTrip};
 ghost use Rattle.hexadecimal.specs.declared.NotHex;
 
 use std::alloc::{AllocError, Global};
+use std::fmt;
 
-/// Two digits to each byte, the high one first.
-#[tactic(auto, using(crate::proofs::More::hex_more))]
+/// Writes a byte as two digits.
+#[tactic(auto, using(std::proofs::lemmas::Fmt::hex_byte))]
+fn write_byte<W: fmt::Write>(b: u8, f: &mut fmt::Formatter<W>) -> fmt::Result
+    ensures { WritesOnOk W.write_str_gives f.old result (hex (b ∷ [])) f.new }
+{
+    write!(f, "{b:02x}")
+}
+
+/// Bytes that print as hexadecimal text: two digits to each byte, the high one first.
+#[derive(Clone, Copy, Debug)]
+pub struct Hex<'a>(pub &'a [u8]);
+
+impl fmt::Display for Hex<'_> {
+    ghost output = { λ h. Some (hex h.0.now) };
+
+    fn fmt<W: fmt::Write>(&self, f: &mut fmt::Formatter<W>) -> fmt::Result {
+        for b in self.0 {
+            write_byte(*b, f)?;
+        }
+        Ok(())
+    }
+}
+
+/// Bytes as hexadecimal text.
 pub fn hex_text(heap: Global, bytes: &[u8]) -> Result<String, AllocError>
     ensures { IfOk result (λ t. string_bytes t ≡ hex bytes.now) }
 {
-    let mut text = String::new(heap);
-    for b in bytes {
-        write!(text, "{b:02x}")?;
-    }
-    Ok(text)
+    Hex(bytes).to_string(heap)
 }
 
 /// Why a text does not write the bytes that are asked for.

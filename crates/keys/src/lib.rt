@@ -6,6 +6,7 @@ ghost use Rattle.keys.specs.Detects.{SingleBytesDetected, KeysUncut, TallyFits};
 ghost use Rattle.std.specs.Prelude.{◌≡◌, Decides};
 ghost use Rattle.keys.specs.declared.key.Key.{Key};
 ghost use Rattle.keys.specs.Keys.{same_key, KeysRoundTrip};
+ghost use Rattle.keys.specs.Texts.{KeyTextsRoundTrip};
 
 pub mod digest;
 pub mod fnv1a;
@@ -14,12 +15,18 @@ pub mod tally;
 
 pub use self::digest::{Digest, VALUE_ROOM, key_of};
 pub use self::fnv1a::Fnv1a;
-pub use self::key::{Key, WrongSize};
+pub use self::key::{Key, NoKey, WrongSize};
 pub use self::tally::Tally;
 
 /// Carries the theorem that a key reads back from its bytes, and that no other bytes read as it.
 pub fn keys_round_trip()
     ensures { KeysRoundTrip }
+{}
+
+/// Carries the theorem that keys read back from their texts, and that no other texts read as them.
+#[tactic(auto, using(crate::proofs::Texts::back, crate::proofs::Texts::only))]
+pub fn key_texts_round_trip()
+    ensures { KeyTextsRoundTrip }
 {}
 
 /// Carries the theorem that `==` of keys is the test of their words and counts, and tells whether two keys are one.

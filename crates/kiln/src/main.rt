@@ -11,7 +11,7 @@ use commands::{Command, DigestName, read_words};
 use fault::{Fault, FileFault};
 use files::read_up_to;
 use keys::{Digest, Fnv1a, Key, Tally};
-use listing::{action_lines, key_from_text, key_line};
+use listing::{action_lines, key_line};
 use std::process::ExitCode;
 use std::{env, io};
 
@@ -96,7 +96,7 @@ fn show_action<'a>(
         .try_collect(rt.alloc())?;
     let keys: Vec<Key> = inputs
         .iter()
-        .map(|word| key_from_text(word.as_bytes()).ok_or(Fault::NoKey(word.as_str())))
+        .map(|word| word.parse().map_err(|_| Fault::NoKey(word.as_str())))
         .try_collect(rt.alloc())?;
     let action = letter_of(letter)
         .and_then(|letter| Action::new(letter, arguments.as_slice(), keys.as_slice()))

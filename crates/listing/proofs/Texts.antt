@@ -1,22 +1,20 @@
-use Rattle.std.proofs.Common.{◌≡◌, ℕ, Bool, true, false, cond, List, Some, None, sym, refl, ap, ◌∙◌}
-use Rattle.hexadecimal.specs.Hex.{hex, unhex, writes_bytes}
-use Rattle.hexadecimal.proofs.Back as HexBack
-use Rattle.keys.specs.Keys.{key_size, key_bytes, read_key}
-use Rattle.keys.specs.declared.key.Key.{Key}
-use Rattle.keys.proofs.Trips as KeysTrip
-use Rattle.listing.specs.Lines.{key_text, read_key_text}
+use Rattle.std.proofs.Common.{◌≡◌, ℕ, zero, suc, Bool, true, false, cond, List, [], ◌∷◌, None, refl, arith}
+use Rattle.std.specs.Str.{IsAscii, IsUtf8}
+use Rattle.std.proofs.lemmas.Str.{IsUtf8-from_ascii}
+use Rattle.std.proofs.lemmas.Bool.Decides.{nat_tests}
+use Rattle.hexadecimal.specs.Hex.{are_digits, unhex, writes_bytes}
+use Rattle.keys.specs.Keys.{key_size, read_key}
+use Rattle.keys.specs.Texts.{read_key_text}
 
-pub back : (k : Key) → read_key_text (key_text k) ≡ Some k
-back k =
-    let h = HexBack.back (key_bytes k) (KeysTrip.under_key_bytes k) in
-    let t : writes_bytes key_size (key_text k) ≡ true = ap (λ n. writes_bytes n (key_text k)) (sym (KeysTrip.length-key_bytes k)) ∙ h.0 in
-    rw (t, h.1) (KeysTrip.back k)
+digits_are_ascii : (cs : List ℕ) → are_digits cs ≡ true → IsAscii cs
+digits_are_ascii [] t i = omega arith
+digits_are_ascii (c ∷ cs) t zero = grind (arith, nat_tests)
+digits_are_ascii (c ∷ cs) t (suc i) = digits_are_ascii cs (grind arith) i
 
-only_from : (text : List ℕ) (k : Key) (b : Bool) → b ≡ writes_bytes key_size text → cond b (read_key (unhex text)) None ≡ Some k → text ≡ key_text k
-only_from text k true t h =
-    let e = KeysTrip.only (unhex text) k (HexBack.under_unhex key_size text (sym t)) h in
-    sym (HexBack.only key_size text (sym t)) ∙ ap hex e
-only_from text k false t h = cc
+no_key_from : (text : List ℕ) (b : Bool) → b ≡ writes_bytes key_size text → ¬ (IsUtf8 text) → None ≡ cond b (read_key (unhex text)) None
+no_key_from text true t h = absurd (h (IsUtf8-from_ascii text (digits_are_ascii text (grind arith))))
+no_key_from text false t h = refl
 
-pub only : (text : List ℕ) (k : Key) → read_key_text text ≡ Some k → text ≡ key_text k
-only text k h = only_from text k (writes_bytes key_size text) refl h
+-- bytes that are no text are no key's
+pub no_key : (text : List ℕ) → ¬ (IsUtf8 text) → None ≡ read_key_text text
+no_key text h = no_key_from text (writes_bytes key_size text) refl h

@@ -7,27 +7,29 @@ ghost use Rattle.std.specs.Option.{option_map};
 ghost use Rattle.keys.specs.Digests.{key_of};
 ghost use Rattle.actions.specs.Actions.{action_text};
 ghost use Rattle.actions.specs.Views.{act_of};
-ghost use Rattle.listing.specs.Lines.{key_text, key_line, read_key_text, action_lines, KeyTextsRoundTrip};
+ghost use Rattle.keys.specs.Texts.{key_text, read_key_text};
+ghost use Rattle.listing.specs.Lines.{key_line, action_lines};
 
 use actions::Action;
-use hexadecimal::{hex_text, read_hex};
+use hexadecimal::Hex;
+pub use keys::key_texts_round_trip;
 use keys::{Digest, Key, key_of};
 use std::alloc::{AllocError, Global};
+use std::str;
 
 /// A key as people read it.
 pub fn key_text(heap: Global, key: &Key) -> Result<String, AllocError>
     ensures { IfOk result (λ t. string_bytes t ≡ key_text key.now) }
 {
-    hex_text(heap, &key.to_bytes())
+    key.to_string(heap)
 }
 
 /// The line of one key: the key, the byte count, the name.
 fn line_of(heap: Global, key: &Key, name: &str) -> Result<String, AllocError>
     ensures { IfOk result (λ t. string_bytes t ≡ key_line name.now key.now) }
 {
-    let text = key_text(heap, key)?;
     let count = key.count();
-    format!(in heap; "{text}  {count}  {name}")
+    format!(in heap; "{key}  {count}  {name}")
 }
 
 /// The line of the key of some bytes under a digest; absent where they are too long for it.
@@ -44,12 +46,11 @@ pub fn key_line<D: Digest>(
 }
 
 /// The key that a text is the text of; absent for a text of another form.
+#[tactic(auto, using(crate::proofs::Texts::no_key))]
 pub fn key_from_text(text: &[u8]) -> Option<Key>
     ensures { result ≡ read_key_text text.now }
 {
-    let mut bytes = [0u8; Key::SIZE];
-    read_hex(text, &mut bytes).ok()?;
-    Key::read(&bytes)
+    str::from_utf8(text).ok()?.parse().ok()
 }
 
 /// The lines of an action: its text in hexadecimal, and the key of that text under a digest.
@@ -57,13 +58,7 @@ pub fn action_lines<D: Digest>(heap: Global, action: &Action) -> Result<String, 
     ensures { IfOk result (λ t. option_map (action_lines (action_text (act_of action.now))) (key_of D.LONGEST D.words (action_text (act_of action.now))) ≡ Some (string_bytes t)) }
 {
     let bytes = action.text();
-    let text = hex_text(heap, bytes.as_slice())?;
-    let key = key_text(heap, &action.key::<D>())?;
+    let text = Hex(bytes.as_slice());
+    let key = action.key::<D>();
     format!(in heap; "text {text}\nkey {key}")
 }
-
-/// Carries the theorem that keys read back from their texts, and that no other texts read as them.
-#[tactic(auto, using(crate::proofs::Texts::back, crate::proofs::Texts::only))]
-pub fn key_texts_round_trip()
-    ensures { KeyTextsRoundTrip }
-{}
