@@ -20,6 +20,7 @@ impl Digest for Fnv1a {
     ghost long = { Prim.search rules };
 
     fn digest(bytes: &[u8]) -> Option<[u64; 4]> {
+        // kept: a public function may not ask for a length, so each digest refuses for itself
         if bytes.len() > Self::LONGEST as usize {
             return None;
         }

@@ -1,6 +1,5 @@
 use Rattle.std.proofs.Common.{arith}
 use Rattle.std.proofs.lemmas.List.{take_rest, take-map, drop-map, length-map}
-use Rattle.std.proofs.lemmas.Grind.{common_steps}
 use Rattle.commands.proofs.read_action.Goals as goal
 
 pub returns : goal.returns

@@ -46,6 +46,7 @@ impl Key {
         Ok(())
     }
 
+    // kept: named as `u64::to_be_bytes` is; `From` would not say that this is the layout of files
     /// The bytes of the key.
     pub fn to_bytes(&self) -> [u8; 36]
         ensures { result ≡ key_bytes self.now }
@@ -55,6 +56,7 @@ impl Key {
         bytes
     }
 
+    // kept: bytes that are no key have no reason to tell, so `TryFrom` would add an error that says nothing
     /// The key that a slice of a key's size holds; absent for another size.
     pub fn read(bytes: &[u8]) -> Option<Key>
         ensures { result ≡ read_key bytes.now }
