@@ -1,6 +1,6 @@
 //! Digests, and the keys that they give.
 
-ghost use Rattle.std.specs.Prelude.{◌≡◌, ℕ, ◌≤◌, List};
+ghost use Rattle.std.specs.Prelude.{IfSome, length, ◌≡◌, ℕ, ◌≤◌, List};
 ghost use Rattle.keys.specs.Digests.{value_room, within, key_of};
 
 use crate::key::Key;
@@ -26,13 +26,21 @@ pub trait Digest {
     ghost long: { value_room ≤ LONGEST };
 }
 
+/// The length of a byte string; absent where it is over the most.
+pub(crate) fn length_within(bytes: &[u8], most: u32) -> Option<u32>
+    ensures value { result ≡ within most bytes.now (length bytes.now) }
+    ensures short { IfSome result (λ _. length bytes.now ≤ most) }
+{
+    u32::try_from(bytes.len())
+        .ok()
+        .filter(|length| *length <= most)
+}
+
 /// The key of a byte string: its digest and its length; absent where the digest is.
 pub fn key_of<D: Digest>(bytes: &[u8]) -> Option<Key>
     ensures { result ≡ key_of D.Digest.LONGEST D.Digest.words bytes.now }
 {
-    if bytes.len() > D::LONGEST as usize {
-        return None;
-    }
+    let count = length_within(bytes, D::LONGEST)?;
     let words = D::digest(bytes)?;
-    Some(Key::new(words, bytes.len() as u32))
+    Some(Key::new(words, count))
 }

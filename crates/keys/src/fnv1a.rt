@@ -4,7 +4,7 @@ ghost use Rattle.std.specs.Prelude.{[], ◌∷◌};
 ghost use Rattle.keys.specs.Digests.{fnv1a};
 ghost use Rattle.std.proofs.Common.{rules};
 
-use crate::digest::Digest;
+use crate::digest::{Digest, length_within};
 
 /// FNV-1a in the first word; the other words are 0.
 #[derive(Clone, Copy)]
@@ -20,10 +20,7 @@ impl Digest for Fnv1a {
     ghost long = { Prim.search rules };
 
     fn digest(bytes: &[u8]) -> Option<[u64; 4]> {
-        // kept: a public function may not ask for a length, so each digest refuses for itself
-        if bytes.len() > Self::LONGEST as usize {
-            return None;
-        }
+        length_within(bytes, Self::LONGEST)?;
         let mut hash: u64 = 0xcbf29ce484222325;
         for b in bytes {
             hash = (hash ^ u64::from(*b)).wrapping_mul(0x100000001b3);

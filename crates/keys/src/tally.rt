@@ -4,7 +4,7 @@ ghost use Rattle.std.specs.Prelude.{[], ◌∷◌};
 ghost use Rattle.keys.specs.Digests.{tally_sum, tally_weighted};
 ghost use Rattle.std.proofs.Common.{rules};
 
-use crate::digest::Digest;
+use crate::digest::{Digest, length_within};
 
 /// The sum of the bytes, and the sum of each times its place from 1; the other words are 0.
 #[derive(Clone, Copy)]
@@ -20,10 +20,7 @@ impl Digest for Tally {
     ghost long = { Prim.search rules };
 
     fn digest(bytes: &[u8]) -> Option<[u64; 4]> {
-        // kept: a public function may not ask for a length, so each digest refuses for itself
-        if bytes.len() > Self::LONGEST as usize {
-            return None;
-        }
+        length_within(bytes, Self::LONGEST)?;
         let mut sum: u64 = 0;
         let mut weighted: u64 = 0;
         for (i, b) in bytes.iter().enumerate() {

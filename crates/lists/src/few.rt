@@ -4,8 +4,10 @@ ghost use Rattle.std.specs.Prelude.{◌≡◌, ◌≤◌, ⊤};
 
 use std::alloc::AllocError;
 
+pub mod comparing;
 pub mod filling;
 
+// the library's `ArrayVec` is no `Copy`, and an action is
 /// Up to `N` things, in order, in a value that owns its room; what lies behind them is not looked at.
 pub struct Few<T, const N: usize> {
     items: [T; N],
@@ -13,7 +15,7 @@ pub struct Few<T, const N: usize> {
     ghost short: { len ≤ N },
 }
 
-// kept: `Clone` cannot be derived over a ghost field where a parameter is a type.
+// kept: `Clone` cannot be derived over a ghost field where a parameter is a type
 impl<T: Copy, const N: usize> Clone for Few<T, N> {
     ghost is_clone = { λ x y. y ≡ x };
 

@@ -1,3 +1,2 @@
 pub mod Trips
-pub mod Steps
 pub mod Ends

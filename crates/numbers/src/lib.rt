@@ -20,14 +20,10 @@ pub fn write_number(into: &mut [u8], number: u64)
 pub fn read_number(bytes: &[u8]) -> Option<u64>
     ensures { result ≡ read_big_endian bytes.now }
 {
-    if bytes.len() > 8 {
-        return None;
-    }
-    let mut number: u64 = 0;
-    for b in bytes {
-        number = number * 256 + u64::from(*b);
-    }
-    Some(number)
+    let mut word = [0u8; 8];
+    let start = word.len().checked_sub(bytes.len())?;
+    word[start..].copy_from_slice(bytes);
+    Some(u64::from_be_bytes(word))
 }
 
 /// Carries the theorem that numbers read back as they were written, and no other bytes read as them.

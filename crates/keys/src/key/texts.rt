@@ -39,6 +39,7 @@ impl Key {
         if into.len() != Key::SIZE {
             return Err(WrongSize);
         }
+        // kept: by place, since after a `zip` with `chunks_mut` a proof knows nothing of the bytes
         for (i, word) in self.words.iter().enumerate() {
             write_number(&mut into[8 * i..8 * i + 8], *word);
         }
@@ -56,7 +57,7 @@ impl Key {
         bytes
     }
 
-    // kept: bytes that are no key have no reason to tell, so `TryFrom` would add an error that says nothing
+    // kept: every reader above answers an `Option` by `?`, and would have to turn the error of `TryFrom` back into one
     /// The key that a slice of a key's size holds; absent for another size.
     pub fn read(bytes: &[u8]) -> Option<Key>
         ensures { result ≡ read_key bytes.now }

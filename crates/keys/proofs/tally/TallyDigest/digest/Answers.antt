@@ -11,7 +11,7 @@ loop-i-preserved c =
     let s = sum_by_more (λ x. x) bytes i 0 (omega arith) in
     let w = weighted_more bytes i (omega arith) in
     let small : b ≤ 255 = omega (arith, c.type_inv.bytes i) in
-    let near : i + 1 ≤ 65536 = omega arith in
+    let near : i + 1 ≤ 65536 = omega (arith, c.in_ok-length_within.ensures.short) in
     let product : b * (i + 1) ≤ 255 * 65536 = mul-le-mul small near in
     rw (c.from.ensures, c.from-sum.ensures)
     (ap (λ x. x + b) c.loop-i.invariant.0 ∙ sym s, ap (λ x. x + b * (i + 1)) c.loop-i.invariant.1 ∙ sym w, omega arith, omega arith)
