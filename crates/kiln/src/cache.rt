@@ -3,7 +3,7 @@
 use crate::fault::{Fault, FileFault};
 use crate::files::read_up_to;
 use caches::{log_listing, looks_like_log, slots_listing};
-use commands::FileJob;
+use commands::Layout;
 use keys::Fnv1a;
 use slots::Slots;
 
@@ -39,15 +39,18 @@ fn show_log<'a>(rt: &HostRuntime, name: &'a str, bytes: &[u8]) -> Result<(), Fau
     Ok(())
 }
 
-/// Lists a cache file in the layout that is asked for, or in the one that its first byte tells.
-pub fn list<'a>(rt: &HostRuntime, job: FileJob, name: &'a str) -> Result<(), Fault<'a>> {
+/// Lists a cache file in the layout that is named, or in the one that its first byte tells.
+pub fn list<'a>(
+    rt: &HostRuntime,
+    layout: Option<Layout>,
+    name: &'a str,
+) -> Result<(), Fault<'a>> {
     // one byte more than any cache uses shows a file that is too long
     let bytes = read_up_to(rt, name, MOST as u64 + 1)?;
-    let is_log = match job {
-        FileJob::ListCache => looks_like_log(bytes.as_slice()),
-        FileJob::ListSlots => false,
-        FileJob::ListLog => true,
-    };
+    let is_log = layout.map_or_else(
+        || looks_like_log(bytes.as_slice()),
+        |layout| layout == Layout::Log,
+    );
     if is_log {
         show_log(rt, name, bytes.as_slice())
     } else {
