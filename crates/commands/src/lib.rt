@@ -109,9 +109,9 @@ impl fmt::Display for Misuse<'_> {
 
     fn fmt<W: fmt::Write>(&self, f: &mut fmt::Formatter<W>) -> fmt::Result {
         match self {
-            Misuse::NoCommand => write!(f, "no command"),
+            Misuse::NoCommand => f.write_str("no command"),
             Misuse::UnknownCommand(word) => write!(f, "there is no command '{word}'"),
-            Misuse::NoDigest => write!(f, "--digest wants a name, fnv1a or tally"),
+            Misuse::NoDigest => f.write_str("--digest wants a name, fnv1a or tally"),
             Misuse::UnknownDigest(word) => {
                 write!(f, "there is no digest '{word}': fnv1a and tally are")
             }
@@ -121,13 +121,13 @@ impl fmt::Display for Misuse<'_> {
                     "'{word}' is no option here; options stand before the files"
                 )
             }
-            Misuse::NoFile => write!(f, "no file is named"),
-            Misuse::NoLetter => write!(f, "an action wants a letter, arguments, 'from' and keys"),
-            Misuse::NoFrom => write!(f, "an action wants 'from' before its keys"),
+            Misuse::NoFile => f.write_str("no file is named"),
+            Misuse::NoLetter => f.write_str("an action wants a letter, arguments, 'from' and keys"),
+            Misuse::NoFrom => f.write_str("an action wants 'from' before its keys"),
             Misuse::Incomplete(word) => {
                 write!(f, "'{word}' wants another word, as in 'cache list'")
             }
-            Misuse::NoLayout => write!(f, "--as wants a layout, slots or log"),
+            Misuse::NoLayout => f.write_str("--as wants a layout, slots or log"),
             Misuse::UnknownLayout(word) => {
                 write!(f, "there is no layout '{word}': slots and log are")
             }
