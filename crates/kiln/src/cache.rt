@@ -38,11 +38,7 @@ fn show_log<'a>(rt: &HostRuntime, name: &'a str, bytes: &[u8]) -> Result<(), Fau
 }
 
 /// Lists a cache file in the layout that is named, or in the one that its first byte tells.
-pub fn list<'a>(
-    rt: &HostRuntime,
-    layout: Option<Layout>,
-    name: &'a str,
-) -> Result<(), Fault<'a>> {
+pub fn list<'a>(rt: &HostRuntime, layout: Option<Layout>, name: &'a str) -> Result<(), Fault<'a>> {
     // a table of slots uses less than a log: one byte more shows a file that is too long
     let bytes = read_up_to(rt, name, LOG_ROOM as u64 + 1)?;
     let is_log = layout.map_or_else(

@@ -6,10 +6,9 @@ ghost use Rattle.std.specs.Prelude.{◌≡◌, ◌==◌, Some, codes, is_ok};
 ghost use Rattle.score.specs.Cases.{Cases, no_cases, counted, word_of, summary};
 
 use std::error::Error;
-use std::fmt;
-use std::io;
 use std::io::Print;
 use std::marker::Model;
+use std::{fmt, io};
 
 /// How many cases were tried, and how many failed.
 #[derive(Debug, Drop)]

@@ -6,9 +6,9 @@ use lists::are_zeros;
 use log_store::Log;
 use score::Report;
 use slots::{SLOT, Slots};
+use std::fmt;
 use stores::Store;
 use stores::store::VALUE_ROOM;
-use std::fmt;
 
 const GAIN: &[u8] = b"gain 1 2\n";
 
@@ -19,21 +19,21 @@ const RAMPS: &[u8] = b"ramp 60 200\nramp 120 600\nramp 90 1";
 /// A byte that is damaged: its place, and what it becomes.
 #[derive(Clone, Copy)]
 struct Damage {
-    place: usize,
-    byte: u8,
+    at: usize,
+    to: u8,
 }
 
 impl fmt::Display for Damage {
     fn fmt<W: fmt::Write>(&self, f: &mut fmt::Formatter<W>) -> fmt::Result {
-        write!(f, "byte {} set to {}", self.place, self.byte)
+        write!(f, "byte {} set to {}", self.at, self.to)
     }
 }
 
 impl Damage {
     /// Sets the byte.
     fn apply(self, bytes: &mut [u8]) {
-        if let Some(at) = bytes.get_mut(self.place) {
-            *at = self.byte;
+        if let Some(byte) = bytes.get_mut(self.at) {
+            *byte = self.to;
         }
     }
 }
@@ -41,26 +41,26 @@ impl Damage {
 /// A byte of a log of three entries (GAIN, RAMPS, nothing) that is damaged, and which of them are still found.
 const LOG_DAMAGE: [(Damage, [bool; 3]); 9] = [
     // the kind of a head, a length, the kind of a block, the padding: the log ends before that entry
-    (Damage { place: 0, byte: 4 }, [false, false, false]),
-    (Damage { place: 37, byte: 1 }, [false, false, false]),
-    (Damage { place: 41, byte: 5 }, [false, false, false]),
-    (Damage { place: 60, byte: 1 }, [false, false, false]),
-    (Damage { place: 74, byte: 6 }, [true, false, false]),
-    (Damage { place: 180, byte: 1 }, [true, false, false]),
-    (Damage { place: 181, byte: 0 }, [true, true, false]),
+    (Damage { at: 0, to: 4 }, [false, false, false]),
+    (Damage { at: 37, to: 1 }, [false, false, false]),
+    (Damage { at: 41, to: 5 }, [false, false, false]),
+    (Damage { at: 60, to: 1 }, [false, false, false]),
+    (Damage { at: 74, to: 6 }, [true, false, false]),
+    (Damage { at: 180, to: 1 }, [true, false, false]),
+    (Damage { at: 181, to: 0 }, [true, true, false]),
     // a key or a value: the entry is whole, and another one
-    (Damage { place: 1, byte: 255 }, [false, true, true]),
-    (Damage { place: 42, byte: 0 }, [false, true, true]),
+    (Damage { at: 1, to: 255 }, [false, true, true]),
+    (Damage { at: 42, to: 0 }, [false, true, true]),
 ];
 
 /// A byte of a slot of GAIN that is damaged, and what is then found under its key; the next slot has HOLD under it.
 const SLOT_DAMAGE: [(Damage, &[u8]); 6] = [
-    (Damage { place: 0, byte: 1 }, GAIN),
-    (Damage { place: 0, byte: 2 }, HOLD),
-    (Damage { place: 37, byte: 1 }, HOLD),
-    (Damage { place: 40, byte: 3 }, b"gai"),
-    (Damage { place: 1, byte: 255 }, HOLD),
-    (Damage { place: 2089, byte: 0 }, GAIN),
+    (Damage { at: 0, to: 1 }, GAIN),
+    (Damage { at: 0, to: 2 }, HOLD),
+    (Damage { at: 37, to: 1 }, HOLD),
+    (Damage { at: 40, to: 3 }, b"gai"),
+    (Damage { at: 1, to: 255 }, HOLD),
+    (Damage { at: 2089, to: 0 }, GAIN),
 ];
 
 /// Whether a find gives exactly a value, and zeros behind it.
@@ -122,7 +122,7 @@ fn try_slots(rt: &HostRuntime, damage: Damage, value: &[u8]) -> anyhow::Result<b
     for (slot, value) in slots.zip([GAIN, HOLD]) {
         plant(slot, 0, &[1]);
         plant(slot, 1, &key.to_bytes());
-        plant(slot, 37, &(value.len() as u32).to_be_bytes());
+        plant(slot, 37, &u32::try_from(value.len())?.to_be_bytes());
         plant(slot, 41, value);
     }
     damage.apply(bytes.as_mut_slice());
@@ -160,7 +160,10 @@ pub fn try_damaged_stores(report: &mut Report<'_, HostRuntime>) -> anyhow::Resul
     for (damage, value) in SLOT_DAMAGE.iter() {
         let good = try_slots(report.rt, *damage, value)?;
         let size = value.len();
-        report.case(good, &format_args!("slots with {damage}: {size} bytes found"))?;
+        report.case(
+            good,
+            &format_args!("slots with {damage}: {size} bytes found"),
+        )?;
     }
     for seed in 1..9 {
         let good = try_random(report.rt, seed)?;

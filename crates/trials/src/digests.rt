@@ -54,10 +54,7 @@ fn try_words<D: Digest>(
 }
 
 /// The longest input has a key, and one byte more has none.
-fn try_longest<D: Digest>(
-    report: &mut Report<'_, HostRuntime>,
-    name: &str,
-) -> anyhow::Result<()> {
+fn try_longest<D: Digest>(report: &mut Report<'_, HostRuntime>, name: &str) -> anyhow::Result<()> {
     let most = D::LONGEST;
     let mut bytes = vec![in report.rt.alloc(); 255u8; most as usize]?;
     let longest = key_of::<D>(bytes.as_slice()).is_some();

@@ -92,9 +92,7 @@ fn try_damaged(report: &mut Report<'_, HostRuntime>, action: &Action) -> anyhow:
     } = damage(report.rt.alloc(), action.text().as_slice())?;
     report.case(
         good,
-        &format_args!(
-            "damaged in one byte: {refused} read as nothing, {other} as another action"
-        ),
+        &format_args!("damaged in one byte: {refused} read as nothing, {other} as another action"),
     )?;
     Ok(())
 }
@@ -106,9 +104,15 @@ fn try_result(report: &mut Report<'_, HostRuntime>) -> anyhow::Result<()> {
     let written = write_result(&key, &mut room) == Some(37);
     let same = is_hex(report.rt, &room[0..37], RESULT)?;
     let back = read_result(&room[0..37]) == Some(key);
-    report.case(written && same && back, &"a result record of 37 bytes reads back")?;
+    report.case(
+        written && same && back,
+        &"a result record of 37 bytes reads back",
+    )?;
     report.case(read_result(&room).is_none(), &"one byte more does not")?;
-    report.case(write_result(&key, &mut room[0..36]).is_none(), &"36 bytes have no room for it")?;
+    report.case(
+        write_result(&key, &mut room[0..36]).is_none(),
+        &"36 bytes have no room for it",
+    )?;
     Ok(())
 }
 
@@ -122,19 +126,34 @@ fn try_entry(report: &mut Report<'_, HostRuntime>) -> anyhow::Result<()> {
     let back = read_entry(&room).is_some_and(|entry| {
         entry.key() == key && entry.has_value(value) && entry.rest().len() == 6
     });
-    report.case(written && same && back, &"a log entry of 74 bytes reads back")?;
+    report.case(
+        written && same && back,
+        &"a log entry of 74 bytes reads back",
+    )?;
     room[73] = 1;
-    report.case(read_entry(&room).is_none(), &"one with a padding byte of 1 does not")?;
-    report.case(read_entry(&room[0..73]).is_none(), &"one that is cut does not")?;
+    report.case(
+        read_entry(&room).is_none(),
+        &"one with a padding byte of 1 does not",
+    )?;
+    report.case(
+        read_entry(&room[0..73]).is_none(),
+        &"one that is cut does not",
+    )?;
     Ok(())
 }
 
 /// Sizes of log entries by the length of the value.
 fn try_sizes(report: &mut Report<'_, HostRuntime>) -> anyhow::Result<()> {
     for (length, size) in [(0, 41), (32, 74), (33, 107), (2048, 2153)] {
-        report.case(entry_size(length) == Some(size), &format_args!("a value of {length} bytes takes {size}"))?;
+        report.case(
+            entry_size(length) == Some(size),
+            &format_args!("a value of {length} bytes takes {size}"),
+        )?;
     }
-    report.case(entry_size(2049).is_none(), &"a value of 2049 bytes has no entry")?;
+    report.case(
+        entry_size(2049).is_none(),
+        &"a value of 2049 bytes has no entry",
+    )?;
     Ok(())
 }
 
@@ -149,7 +168,10 @@ fn try_making(report: &mut Report<'_, HostRuntime>) -> anyhow::Result<()> {
     let longer = Argument::new(b"seventeen_bytes_n").is_none();
     let bytes = Argument::new(b"!~").is_some() && Argument::new(b" ").is_none();
     let empty = Argument::new(b"").is_none() && Argument::new(b"\x7f").is_none();
-    report.case(letters && others && inputs && longest && longer && bytes && empty, &"letters, arguments and inputs at their limits")?;
+    report.case(
+        letters && others && inputs && longest && longer && bytes && empty,
+        &"letters, arguments and inputs at their limits",
+    )?;
     Ok(())
 }
 
