@@ -2,8 +2,8 @@ use Rattle.std.specs.Prelude.{◌≡◌, ℕ, cond, List, ◌++◌, Ok, Err, cod
 use Rattle.std.specs.Str.{bytes_eq}
 use Rattle.commands.specs.declared.DigestName.{DigestName}
 use Rattle.commands.specs.declared.DigestName.TheVariants.{Fnv1a, Tally}
-use Rattle.commands.specs.declared.FileJob.{FileJob}
-use Rattle.commands.specs.declared.FileJob.TheVariants.{ListSlots, ListLog}
+use Rattle.commands.specs.declared.Layout.{Layout}
+use Rattle.commands.specs.declared.Layout.TheVariants.{Slots, Log}
 use Rattle.commands.specs.declared.UnknownName.{UnknownName}
 use Rattle.commands.specs.declared.Misuse.{Misuse}
 use Rattle.commands.specs.declared.Misuse.TheVariants.{NoCommand, UnknownCommand, NoDigest, UnknownDigest, StrayOption, NoFile, NoLetter, NoFrom, Incomplete, NoLayout, UnknownLayout, OneFileOnly}
@@ -14,9 +14,9 @@ NamesDigest w r =
     r ≡ cond (bytes_eq w (codes "fnv1a")) (Ok Fnv1a) (cond (bytes_eq w (codes "tally")) (Ok Tally) (Err (record {})))
 
 -- what the name of a layout reads as
-abbrev pub NamesLayout : List ℕ → Result FileJob UnknownName → Type 0
+abbrev pub NamesLayout : List ℕ → Result Layout UnknownName → Type 0
 NamesLayout w r =
-    r ≡ cond (bytes_eq w (codes "slots")) (Ok ListSlots) (cond (bytes_eq w (codes "log")) (Ok ListLog) (Err (record {})))
+    r ≡ cond (bytes_eq w (codes "slots")) (Ok Slots) (cond (bytes_eq w (codes "log")) (Ok Log) (Err (record {})))
 
 -- what is said of a command line that is not understood
 abbrev pub misuse_text : Misuse → List ℕ

@@ -2,10 +2,10 @@ use Rattle.std.specs.Prelude.{ℕ, ◌+◌, Bool, false, cond, ◌&&◌, ◌||�
 use Rattle.std.specs.Str.{bytes_eq}
 use Rattle.commands.specs.declared.DigestName.{DigestName}
 use Rattle.commands.specs.declared.DigestName.TheVariants.{Fnv1a, Tally}
-use Rattle.commands.specs.declared.FileJob.{FileJob}
-use Rattle.commands.specs.declared.FileJob.TheVariants.{ListCache, ListSlots, ListLog}
+use Rattle.commands.specs.declared.Layout.{Layout}
+use Rattle.commands.specs.declared.Layout.TheVariants.{Slots, Log}
 use Rattle.commands.specs.declared.Command.{Command}
-use Rattle.commands.specs.declared.Command.TheVariants.{Help, Key, Action, OnFile}
+use Rattle.commands.specs.declared.Command.TheVariants.{Help, Key, Action, ListCache}
 use Rattle.commands.specs.declared.Misuse.{Misuse}
 use Rattle.commands.specs.declared.Misuse.TheVariants.{NoCommand, UnknownCommand, NoDigest, UnknownDigest, StrayOption, NoFile, NoLetter, NoFrom, Incomplete, NoLayout, UnknownLayout, OneFileOnly}
 
@@ -18,7 +18,7 @@ pub data Reading : Type 0 where
   help : Reading
   key : DigestName → List Word → Reading
   action : Word → List Word → List Word → Reading
-  on_file : FileJob → Word → Reading
+  list_cache : Option Layout → Word → Reading
   no_command : Reading
   unknown_command : Word → Reading
   no_digest : Reading
@@ -37,7 +37,7 @@ abbrev pub reading : Result Command Misuse → Reading
 reading (Ok Help) = help
 reading (Ok (Key d files)) = key d (map string_bytes files.now)
 reading (Ok (Action l ws ks)) = action l.now (map string_bytes ws.now) (map string_bytes ks.now)
-reading (Ok (OnFile j f)) = on_file j f.now
+reading (Ok (ListCache l f)) = list_cache l f.now
 reading (Err NoCommand) = no_command
 reading (Err (UnknownCommand w)) = unknown_command w.now
 reading (Err NoDigest) = no_digest
@@ -98,25 +98,25 @@ read_action [] = no_letter
 read_action (l ∷ ws) = with_from l ws
 
 -- one file name, which may not look like an option, and nothing behind it
-abbrev pub with_one_file : FileJob → List Word → Option Word → Reading
-with_one_file j ws (Some w) = stray_option w
-with_one_file j [] None = no_file
-with_one_file j (w ∷ []) None = on_file j w
-with_one_file j (w ∷ x ∷ ws) None = one_file_only x
+abbrev pub with_one_file : Option Layout → List Word → Option Word → Reading
+with_one_file l ws (Some w) = stray_option w
+with_one_file l [] None = no_file
+with_one_file l (w ∷ []) None = list_cache l w
+with_one_file l (w ∷ x ∷ ws) None = one_file_only x
 
-abbrev pub read_one_file : FileJob → List Word → Reading
-read_one_file j ws = with_one_file j ws (first_option ws)
+abbrev pub read_one_file : Option Layout → List Word → Reading
+read_one_file l ws = with_one_file l ws (first_option ws)
 
 -- the name of a layout, then a file
 abbrev pub read_layout : List Word → Reading
 read_layout [] = no_layout
 read_layout (w ∷ ws) =
-    cond (bytes_eq w (codes "slots")) (read_one_file ListSlots ws) (cond (bytes_eq w (codes "log")) (read_one_file ListLog ws) (unknown_layout w))
+    cond (bytes_eq w (codes "slots")) (read_one_file (Some Slots) ws) (cond (bytes_eq w (codes "log")) (read_one_file (Some Log) ws) (unknown_layout w))
 
 -- the words behind `cache list`: perhaps a layout, then a file
 abbrev pub read_list : List Word → Reading
 read_list [] = no_file
-read_list (w ∷ ws) = cond (bytes_eq w (codes "--as")) (read_layout ws) (read_one_file ListCache (w ∷ ws))
+read_list (w ∷ ws) = cond (bytes_eq w (codes "--as")) (read_layout ws) (read_one_file None (w ∷ ws))
 
 -- the words behind `cache`
 abbrev pub read_cache : Word → List Word → Reading

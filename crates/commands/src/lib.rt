@@ -2,7 +2,7 @@
 
 #![tactic(auto)]
 
-ghost use Rattle.std.specs.Prelude.{◌≡◌, Some, None, map, length, string_bytes, nat_lt, if◌then◌else◌};
+ghost use Rattle.std.specs.Prelude.{◌≡◌, Some, None, map, length, string_bytes, codes, nat_lt, if◌then◌else◌};
 ghost use Rattle.std.specs.Option.{option_map};
 ghost use Rattle.commands.specs.Reading.{reading, is_option, first_option, read_files, read_digest, read_key, from_place, read_action, read_one_file, read_layout, read_list, read_cache, read_command, read_words};
 ghost use Rattle.commands.specs.Names.{NamesDigest, NamesLayout, misuse_text};
@@ -14,6 +14,16 @@ use std::str::FromStr;
 /// A name that is none of those there are.
 #[derive(Clone, Copy, Debug, PartialEq, Eq)]
 pub struct UnknownName;
+
+impl fmt::Display for UnknownName {
+    ghost output = { λ _. Some (codes "there is no such name") };
+
+    fn fmt<W: fmt::Write>(&self, f: &mut fmt::Formatter<W>) -> fmt::Result {
+        f.write_str("there is no such name")
+    }
+}
+
+impl Error for UnknownName {}
 
 /// A digest, by the name that the option `--digest` gives it.
 #[derive(Clone, Copy, Debug, PartialEq, Eq)]
@@ -36,27 +46,22 @@ impl FromStr for DigestName {
     }
 }
 
-/// What is done with one file.
+/// The layout of a cache file, by the name that the option `--as` gives it.
 #[derive(Clone, Copy, Debug, PartialEq, Eq)]
-pub enum FileJob {
-    /// Lists a cache file, whose layout its first byte tells.
-    ListCache,
-    /// Lists a cache file of slots.
-    ListSlots,
-    /// Lists a cache file that is a log.
-    ListLog,
+pub enum Layout {
+    Slots,
+    Log,
 }
 
-/// The listing of a cache file, by the name that the option `--as` gives its layout.
-impl FromStr for FileJob {
+impl FromStr for Layout {
     type Err = UnknownName;
 
     ghost from_str_gives = { NamesLayout };
 
-    fn from_str(layout: &str) -> Result<Self, UnknownName> {
-        match layout {
-            "slots" => Ok(FileJob::ListSlots),
-            "log" => Ok(FileJob::ListLog),
+    fn from_str(name: &str) -> Result<Self, UnknownName> {
+        match name {
+            "slots" => Ok(Layout::Slots),
+            "log" => Ok(Layout::Log),
             _ => Err(UnknownName),
         }
     }
@@ -75,8 +80,9 @@ pub enum Command<'a> {
         arguments: &'a [String],
         inputs: &'a [String],
     },
-    OnFile {
-        job: FileJob,
+    /// Lists a cache file, whose layout its first byte tells where none is named.
+    ListCache {
+        layout: Option<Layout>,
         file: &'a str,
     },
 }
@@ -103,9 +109,9 @@ impl fmt::Display for Misuse<'_> {
 
     fn fmt<W: fmt::Write>(&self, f: &mut fmt::Formatter<W>) -> fmt::Result {
         match self {
-            Misuse::NoCommand => write!(f, "no command"),
+            Misuse::NoCommand => f.write_str("no command"),
             Misuse::UnknownCommand(word) => write!(f, "there is no command '{word}'"),
-            Misuse::NoDigest => write!(f, "--digest wants a name, fnv1a or tally"),
+            Misuse::NoDigest => f.write_str("--digest wants a name, fnv1a or tally"),
             Misuse::UnknownDigest(word) => {
                 write!(f, "there is no digest '{word}': fnv1a and tally are")
             }
@@ -115,13 +121,13 @@ impl fmt::Display for Misuse<'_> {
                     "'{word}' is no option here; options stand before the files"
                 )
             }
-            Misuse::NoFile => write!(f, "no file is named"),
-            Misuse::NoLetter => write!(f, "an action wants a letter, arguments, 'from' and keys"),
-            Misuse::NoFrom => write!(f, "an action wants 'from' before its keys"),
+            Misuse::NoFile => f.write_str("no file is named"),
+            Misuse::NoLetter => f.write_str("an action wants a letter, arguments, 'from' and keys"),
+            Misuse::NoFrom => f.write_str("an action wants 'from' before its keys"),
             Misuse::Incomplete(word) => {
                 write!(f, "'{word}' wants another word, as in 'cache list'")
             }
-            Misuse::NoLayout => write!(f, "--as wants a layout, slots or log"),
+            Misuse::NoLayout => f.write_str("--as wants a layout, slots or log"),
             Misuse::UnknownLayout(word) => {
                 write!(f, "there is no layout '{word}': slots and log are")
             }
@@ -169,10 +175,8 @@ fn read_digest(words: &[String]) -> Result<Command<'_>, Misuse<'_>>
     ensures { reading result ≡ read_digest (map string_bytes words.now) }
 {
     let (name, files) = words.split_first().ok_or(Misuse::NoDigest)?;
-    match name.parse() {
-        Ok(digest) => read_files(digest, files),
-        Err(UnknownName) => Err(Misuse::UnknownDigest(name)),
-    }
+    let digest = name.parse().map_err(|_| Misuse::UnknownDigest(name))?;
+    read_files(digest, files)
 }
 
 /// The words behind `key`: perhaps a digest, then file names.
@@ -206,29 +210,26 @@ fn read_action(words: &[String]) -> Result<Command<'_>, Misuse<'_>>
 }
 
 /// One file name, which may not look like an option, and nothing behind it.
-fn read_one_file(job: FileJob, words: &[String]) -> Result<Command<'_>, Misuse<'_>>
-    ensures { reading result ≡ read_one_file job (map string_bytes words.now) }
+fn read_one_file(layout: Option<Layout>, words: &[String]) -> Result<Command<'_>, Misuse<'_>>
+    ensures { reading result ≡ read_one_file layout (map string_bytes words.now) }
 {
     if let Some(option) = first_option(words) {
         return Err(Misuse::StrayOption(option));
     }
     match words {
         [] => Err(Misuse::NoFile),
-        [file] => Ok(Command::OnFile { job, file }),
+        [file] => Ok(Command::ListCache { layout, file }),
         [_, extra, ..] => Err(Misuse::OneFileOnly(extra)),
     }
 }
 
-// kept: like `read_digest` in shape alone; one function for both would take two errors and a reader of the rest
 /// The name of a layout, then a file.
 fn read_layout(words: &[String]) -> Result<Command<'_>, Misuse<'_>>
     ensures { reading result ≡ read_layout (map string_bytes words.now) }
 {
     let (name, rest) = words.split_first().ok_or(Misuse::NoLayout)?;
-    match name.parse() {
-        Ok(job) => read_one_file(job, rest),
-        Err(UnknownName) => Err(Misuse::UnknownLayout(name)),
-    }
+    let layout = name.parse().map_err(|_| Misuse::UnknownLayout(name))?;
+    read_one_file(Some(layout), rest)
 }
 
 /// The words behind `cache list`: perhaps a layout, then a file.
@@ -237,7 +238,7 @@ fn read_list(words: &[String]) -> Result<Command<'_>, Misuse<'_>>
 {
     match words {
         [option, rest @ ..] if option.as_str() == "--as" => read_layout(rest),
-        _ => read_one_file(FileJob::ListCache, words),
+        _ => read_one_file(None, words),
     }
 }
 

@@ -1,6 +1,8 @@
-use Rattle.std.specs.Prelude.{◌≡◌, ℕ, ◌+◌, ◌-◌, ◌*◌, ◌/◌, ◌%◌, Bool, true, cond, ◌&&◌, ◌||◌, List, [], ◌∷◌, length, ◌==◌, nat_le, nat_lt}
+use Rattle.std.specs.Prelude.{◌≡◌, ℕ, ◌+◌, ◌-◌, ◌*◌, ◌/◌, ◌%◌, Bool, true, cond, ◌&&◌, ◌||◌, List, [], ◌∷◌, length, codes, ◌==◌, nat_le, nat_lt}
 use Rattle.std.specs.Int.Digits.{AllBelowBase}
 use Rattle.lists.specs.Each.{each}
+use Rattle.hexadecimal.specs.declared.NotHex.{NotHex}
+use Rattle.hexadecimal.specs.declared.NotHex.TheVariants.{Length, Digit}
 
 -- the digit 0 to 9 or a to f of a number below 16, as its code
 abbrev pub hex_digit : ℕ → ℕ
@@ -32,6 +34,11 @@ unhex (c ∷ d ∷ cs) = (digit_value c * 16 + digit_value d) ∷ unhex cs
 -- whether a text writes exactly n bytes
 abbrev pub writes_bytes : ℕ → List ℕ → Bool
 writes_bytes n text = length text == 2 * n && are_digits text
+
+-- what is said of a text that does not write the bytes that are asked for
+abbrev pub not_hex_text : NotHex → List ℕ
+not_hex_text Length = codes "not two digits for each byte"
+not_hex_text Digit = codes "a character is no digit 0 to 9 or a to f"
 
 -- bytes read back from their text, and a text that writes bytes is the text of these
 abbrev pub HexRoundTrip : Type 0

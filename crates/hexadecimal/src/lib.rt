@@ -4,10 +4,11 @@
 
 ghost use Rattle.std.specs.Prelude.{◌≡◌, ◌≢◌, ◌*◌, ◌↔◌, [], ◌∷◌, Some, None, false, length, is_ok, IsErrOf, IfOk, if◌then◌else◌, string_bytes};
 ghost use Rattle.std.specs.Fmt.{WritesOnOk};
-ghost use Rattle.hexadecimal.specs.Hex.{hex, is_digit, are_digits, digit_value, unhex, writes_bytes, HexRoundTrip};
+ghost use Rattle.hexadecimal.specs.Hex.{hex, is_digit, are_digits, digit_value, unhex, writes_bytes, not_hex_text, HexRoundTrip};
 ghost use Rattle.hexadecimal.specs.declared.NotHex;
 
 use std::alloc::{AllocError, Global};
+use std::error::Error;
 use std::fmt;
 
 /// Writes a byte as two digits.
@@ -48,6 +49,19 @@ pub enum NotHex {
     /// A character is no digit 0 to 9 or a to f.
     Digit,
 }
+
+impl fmt::Display for NotHex {
+    ghost output = { λ r. Some (not_hex_text r) };
+
+    fn fmt<W: fmt::Write>(&self, f: &mut fmt::Formatter<W>) -> fmt::Result {
+        match self {
+            NotHex::Length => f.write_str("not two digits for each byte"),
+            NotHex::Digit => f.write_str("a character is no digit 0 to 9 or a to f"),
+        }
+    }
+}
+
+impl Error for NotHex {}
 
 /// The number of a digit 0 to 9 or a to f; absent for another character.
 fn digit_value(c: u8) -> Option<u8>

@@ -3,12 +3,10 @@
 use crate::fault::{Fault, FileFault};
 use crate::files::read_up_to;
 use caches::{log_listing, looks_like_log, slots_listing};
-use commands::FileJob;
+use commands::Layout;
 use keys::Fnv1a;
+use log_store::LOG_ROOM;
 use slots::Slots;
-
-/// The most bytes of a log, which are more than a table of slots uses.
-pub const MOST: usize = 65536;
 
 /// Prints the pairs of a table of slots.
 fn show_slots<'a>(rt: &HostRuntime, name: &'a str, bytes: Vec<u8>) -> Result<(), Fault<'a>> {
@@ -28,7 +26,7 @@ fn show_slots<'a>(rt: &HostRuntime, name: &'a str, bytes: Vec<u8>) -> Result<(),
 /// Prints the pairs of a log.
 fn show_log<'a>(rt: &HostRuntime, name: &'a str, bytes: &[u8]) -> Result<(), Fault<'a>> {
     let len = bytes.len();
-    if len > MOST {
+    if len > LOG_ROOM {
         return Err(Fault::File {
             name,
             reason: FileFault::LongLog,
@@ -39,15 +37,14 @@ fn show_log<'a>(rt: &HostRuntime, name: &'a str, bytes: &[u8]) -> Result<(), Fau
     Ok(())
 }
 
-/// Lists a cache file in the layout that is asked for, or in the one that its first byte tells.
-pub fn list<'a>(rt: &HostRuntime, job: FileJob, name: &'a str) -> Result<(), Fault<'a>> {
-    // one byte more than any cache uses shows a file that is too long
-    let bytes = read_up_to(rt, name, MOST as u64 + 1)?;
-    let is_log = match job {
-        FileJob::ListCache => looks_like_log(bytes.as_slice()),
-        FileJob::ListSlots => false,
-        FileJob::ListLog => true,
-    };
+/// Lists a cache file in the layout that is named, or in the one that its first byte tells.
+pub fn list<'a>(rt: &HostRuntime, layout: Option<Layout>, name: &'a str) -> Result<(), Fault<'a>> {
+    // a table of slots uses less than a log: one byte more shows a file that is too long
+    let bytes = read_up_to(rt, name, LOG_ROOM as u64 + 1)?;
+    let is_log = layout.map_or_else(
+        || looks_like_log(bytes.as_slice()),
+        |layout| layout == Layout::Log,
+    );
     if is_log {
         show_log(rt, name, bytes.as_slice())
     } else {

@@ -1,8 +1,8 @@
 //! What ends the program without success.
 
 use crate::USAGE;
-use crate::cache::MOST;
 use commands::Misuse;
+use log_store::LOG_ROOM;
 use slots::SLOT;
 use std::alloc::AllocError;
 use std::{fmt, io};
@@ -78,7 +78,7 @@ impl fmt::Display for FileFault {
                 f,
                 "{len} bytes are too few for a cache of slots, which has {SLOT} or more"
             ),
-            FileFault::LongLog => write!(f, "too long for a log, which has up to {MOST} bytes"),
+            FileFault::LongLog => write!(f, "too long for a log, which has up to {LOG_ROOM} bytes"),
         }
     }
 }

@@ -122,7 +122,7 @@ fn run<'a>(rt: &HostRuntime, words: &'a [String]) -> Result<(), Fault<'a>> {
             arguments,
             inputs,
         } => show_action(rt, letter, arguments, inputs),
-        Command::OnFile { job, file } => cache::list(rt, job, file),
+        Command::ListCache { layout, file } => cache::list(rt, layout, file),
     }
 }
 

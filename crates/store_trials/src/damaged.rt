@@ -4,8 +4,9 @@ use anyhow::Context;
 use keys::{Fnv1a, Key, key_of};
 use lists::are_zeros;
 use log_store::Log;
-use score::Score;
+use score::Report;
 use slots::{SLOT, Slots};
+use std::fmt;
 use stores::Store;
 use stores::store::VALUE_ROOM;
 
@@ -17,13 +18,22 @@ const RAMPS: &[u8] = b"ramp 60 200\nramp 120 600\nramp 90 1";
 
 /// A byte that is damaged: its place, and what it becomes.
 #[derive(Clone, Copy)]
-struct Damage(usize, u8);
+struct Damage {
+    at: usize,
+    to: u8,
+}
+
+impl fmt::Display for Damage {
+    fn fmt<W: fmt::Write>(&self, f: &mut fmt::Formatter<W>) -> fmt::Result {
+        write!(f, "byte {} set to {}", self.at, self.to)
+    }
+}
 
 impl Damage {
     /// Sets the byte.
     fn apply(self, bytes: &mut [u8]) {
-        if let Some(at) = bytes.get_mut(self.0) {
-            *at = self.1;
+        if let Some(byte) = bytes.get_mut(self.at) {
+            *byte = self.to;
         }
     }
 }
@@ -31,32 +41,27 @@ impl Damage {
 /// A byte of a log of three entries (GAIN, RAMPS, nothing) that is damaged, and which of them are still found.
 const LOG_DAMAGE: [(Damage, [bool; 3]); 9] = [
     // the kind of a head, a length, the kind of a block, the padding: the log ends before that entry
-    (Damage(0, 4), [false, false, false]),
-    (Damage(37, 1), [false, false, false]),
-    (Damage(41, 5), [false, false, false]),
-    (Damage(60, 1), [false, false, false]),
-    (Damage(74, 6), [true, false, false]),
-    (Damage(180, 1), [true, false, false]),
-    (Damage(181, 0), [true, true, false]),
+    (Damage { at: 0, to: 4 }, [false, false, false]),
+    (Damage { at: 37, to: 1 }, [false, false, false]),
+    (Damage { at: 41, to: 5 }, [false, false, false]),
+    (Damage { at: 60, to: 1 }, [false, false, false]),
+    (Damage { at: 74, to: 6 }, [true, false, false]),
+    (Damage { at: 180, to: 1 }, [true, false, false]),
+    (Damage { at: 181, to: 0 }, [true, true, false]),
     // a key or a value: the entry is whole, and another one
-    (Damage(1, 255), [false, true, true]),
-    (Damage(42, 0), [false, true, true]),
+    (Damage { at: 1, to: 255 }, [false, true, true]),
+    (Damage { at: 42, to: 0 }, [false, true, true]),
 ];
 
 /// A byte of a slot of GAIN that is damaged, and what is then found under its key; the next slot has HOLD under it.
 const SLOT_DAMAGE: [(Damage, &[u8]); 6] = [
-    (Damage(0, 1), GAIN),
-    (Damage(0, 2), HOLD),
-    (Damage(37, 1), HOLD),
-    (Damage(40, 3), b"gai"),
-    (Damage(1, 255), HOLD),
-    (Damage(2089, 0), GAIN),
+    (Damage { at: 0, to: 1 }, GAIN),
+    (Damage { at: 0, to: 2 }, HOLD),
+    (Damage { at: 37, to: 1 }, HOLD),
+    (Damage { at: 40, to: 3 }, b"gai"),
+    (Damage { at: 1, to: 255 }, HOLD),
+    (Damage { at: 2089, to: 0 }, GAIN),
 ];
-
-/// The FNV-1a key of some bytes.
-fn key(bytes: &[u8]) -> anyhow::Result<Key> {
-    key_of::<Fnv1a>(bytes).context("too long")
-}
 
 /// Whether a find gives exactly a value, and zeros behind it.
 fn finds<S: Store>(store: &mut S, key: &Key, value: &[u8]) -> bool {
@@ -70,12 +75,14 @@ fn finds<S: Store>(store: &mut S, key: &Key, value: &[u8]) -> bool {
 
 /// Whether a find gives exactly a value under its key.
 fn has<S: Store>(store: &mut S, value: &[u8]) -> anyhow::Result<bool> {
-    Ok(finds(store, &key(value)?, value))
+    let key = key_of::<Fnv1a>(value).context("too long")?;
+    Ok(finds(store, &key, value))
 }
 
 /// Whether a put of a value under its key is kept.
 fn keeps<S: Store>(store: &mut S, value: &[u8]) -> anyhow::Result<bool> {
-    Ok(store.put(&key(value)?, value).is_ok())
+    let key = key_of::<Fnv1a>(value).context("too long")?;
+    Ok(store.put(&key, value).is_ok())
 }
 
 /// Whether a log finds which of its three values, and no others.
@@ -110,15 +117,12 @@ fn plant(slot: &mut [u8], place: usize, from: &[u8]) {
 /// Whether a damaged table of slots finds a value, and takes puts as before.
 fn try_slots(rt: &HostRuntime, damage: Damage, value: &[u8]) -> anyhow::Result<bool> {
     let mut bytes: Vec<u8> = vec![in rt.alloc(); 0; 4200]?;
-    let key = key(GAIN)?;
-    for (slot, (value, size)) in bytes
-        .as_mut_slice()
-        .chunks_exact_mut(SLOT)
-        .zip([(GAIN, 9), (HOLD, 8)])
-    {
+    let key = key_of::<Fnv1a>(GAIN).context("too long")?;
+    let slots = bytes.as_mut_slice().chunks_exact_mut(SLOT);
+    for (slot, value) in slots.zip([GAIN, HOLD]) {
         plant(slot, 0, &[1]);
         plant(slot, 1, &key.to_bytes());
-        plant(slot, 37, &[0, 0, 0, size]);
+        plant(slot, 37, &u32::try_from(value.len())?.to_be_bytes());
         plant(slot, 41, value);
     }
     damage.apply(bytes.as_mut_slice());
@@ -148,21 +152,25 @@ fn try_random(rt: &HostRuntime, seed: u64) -> anyhow::Result<bool> {
 }
 
 /// Tries all of these.
-pub fn try_damaged_stores(rt: &HostRuntime, score: &mut Score) -> anyhow::Result<()> {
+pub fn try_damaged_stores(report: &mut Report<'_, HostRuntime>) -> anyhow::Result<()> {
     for (damage, left) in LOG_DAMAGE.iter() {
-        let word = score.count(try_log(rt, *damage, *left)?);
-        let Damage(place, byte) = *damage;
-        println!(rt; "{word} log with byte {place} set to {byte}")?;
+        let good = try_log(report.rt, *damage, *left)?;
+        report.case(good, &format_args!("log with {damage}"))?;
     }
     for (damage, value) in SLOT_DAMAGE.iter() {
-        let word = score.count(try_slots(rt, *damage, value)?);
-        let Damage(place, byte) = *damage;
+        let good = try_slots(report.rt, *damage, value)?;
         let size = value.len();
-        println!(rt; "{word} slots with byte {place} set to {byte}: {size} bytes found")?;
+        report.case(
+            good,
+            &format_args!("slots with {damage}: {size} bytes found"),
+        )?;
     }
     for seed in 1..9 {
-        let word = score.count(try_random(rt, seed)?);
-        println!(rt; "{word} slots and log over random bytes, seed {seed}")?;
+        let good = try_random(report.rt, seed)?;
+        report.case(
+            good,
+            &format_args!("slots and log over random bytes, seed {seed}"),
+        )?;
     }
     Ok(())
 }

@@ -4,11 +4,12 @@
 
 mod damaged;
 
-use score::Score;
+use score::Report;
 
 fn main(rt: HostRuntime) -> anyhow::Result<()> {
-    let mut score = Score::new();
-    damaged::try_damaged_stores(&rt, &mut score)?;
+    let mut report = Report::new(&rt);
+    damaged::try_damaged_stores(&mut report)?;
+    let score = report.into_score();
     println!(rt; "{score}")?;
     score.verdict()?;
     Ok(())

@@ -1,7 +1,7 @@
 //! Digests: published vectors, sums worked out by hand, the longest inputs.
 
 use keys::{Digest, Fnv1a, Tally, key_of};
-use score::Score;
+use score::Report;
 use std::{fmt, io};
 
 /// Texts with the first word of their digest, as the authors of FNV published them.
@@ -42,8 +42,7 @@ const TALLY: [(&[u8], u64, u64); 4] = [
 
 /// Tries that a text has a key of certain words under a digest.
 fn try_words<D: Digest>(
-    rt: &HostRuntime,
-    score: &mut Score,
+    report: &mut Report<'_, HostRuntime>,
     text: &[u8],
     words: [u64; 4],
     shown: &impl fmt::Display,
@@ -51,32 +50,31 @@ fn try_words<D: Digest>(
     let count = text.len();
     let good = key_of::<D>(text).is_some_and(|key| key.words() == words
         && key.count() as usize == count);
-    let word = score.count(good);
-    println!(rt; "{word} {shown} of {count} bytes")
+    report.case(good, &format_args!("{shown} of {count} bytes"))
 }
 
 /// The longest input has a key, and one byte more has none.
-fn try_longest<D: Digest>(rt: &HostRuntime, score: &mut Score, name: &str) -> anyhow::Result<()> {
+fn try_longest<D: Digest>(report: &mut Report<'_, HostRuntime>, name: &str) -> anyhow::Result<()> {
     let most = D::LONGEST;
-    let mut bytes = vec![in rt.alloc(); 255u8; most as usize]?;
-    let longest = score.count(key_of::<D>(bytes.as_slice()).is_some());
-    println!(rt; "{longest} {name} takes {most} bytes")?;
+    let mut bytes = vec![in report.rt.alloc(); 255u8; most as usize]?;
+    let longest = key_of::<D>(bytes.as_slice()).is_some();
+    report.case(longest, &format_args!("{name} takes {most} bytes"))?;
     bytes.push(0)?;
-    let longer = score.count(key_of::<D>(bytes.as_slice()).is_none());
-    println!(rt; "{longer} {name} takes no more")?;
+    let longer = key_of::<D>(bytes.as_slice()).is_none();
+    report.case(longer, &format_args!("{name} takes no more"))?;
     Ok(())
 }
 
 /// Tries all of these.
-pub fn try_digests(rt: &HostRuntime, score: &mut Score) -> anyhow::Result<()> {
+pub fn try_digests(report: &mut Report<'_, HostRuntime>) -> anyhow::Result<()> {
     for (text, hash) in FNV1A {
         let shown = format_args!("fnv1a {hash:016x}");
-        try_words::<Fnv1a>(rt, score, text, [hash, 0, 0, 0], &shown)?;
+        try_words::<Fnv1a>(report, text, [hash, 0, 0, 0], &shown)?;
     }
     for (text, sum, weighted) in TALLY {
         let shown = format_args!("tally {sum} {weighted}");
-        try_words::<Tally>(rt, score, text, [sum, weighted, 0, 0], &shown)?;
+        try_words::<Tally>(report, text, [sum, weighted, 0, 0], &shown)?;
     }
-    try_longest::<Fnv1a>(rt, score, "fnv1a")?;
-    try_longest::<Tally>(rt, score, "tally")
+    try_longest::<Fnv1a>(report, "fnv1a")?;
+    try_longest::<Tally>(report, "tally")
 }

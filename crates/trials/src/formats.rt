@@ -6,7 +6,7 @@ use entries::{entry_size, read_entry, write_entry};
 use hexadecimal::hex_text;
 use keys::{Fnv1a, Key, key_of};
 use records::{read_result, write_result};
-use score::Score;
+use score::Report;
 use std::alloc::{AllocError, Global};
 
 const UPPER: &str =
@@ -38,19 +38,20 @@ fn action(letter: u8, arguments: &[Argument], inputs: &[Key]) -> anyhow::Result<
 
 /// Tries that an action has a text of that size and those digits, and reads back from it.
 fn try_action(
-    rt: &HostRuntime,
-    score: &mut Score,
+    report: &mut Report<'_, HostRuntime>,
     action: &Action,
     digits: &str,
 ) -> anyhow::Result<()> {
     let text = action.text();
     let bytes = text.as_slice();
     let size = bytes.len();
-    let same = is_hex(rt, bytes, digits)?;
-    let word = score.count(same && Action::read(bytes).is_some());
-    let cut = score.count(matches!(bytes, [front @ .., _] if Action::read(front).is_none()));
-    println!(rt; "{word} an action text of {size} bytes reads back")?;
-    println!(rt; "{cut} one byte less does not")?;
+    let back = is_hex(report.rt, bytes, digits)? && Action::read(bytes).is_some();
+    report.case(
+        back,
+        &format_args!("an action text of {size} bytes reads back"),
+    )?;
+    let cut = matches!(bytes, [front @ .., _] if Action::read(front).is_none());
+    report.case(cut, &"one byte less does not")?;
     Ok(())
 }
 
@@ -83,68 +84,81 @@ fn damage(heap: Global, text: &[u8]) -> Result<Damaged, AllocError> {
     Ok(seen)
 }
 
-fn try_damaged(rt: &HostRuntime, score: &mut Score, action: &Action) -> anyhow::Result<()> {
+fn try_damaged(report: &mut Report<'_, HostRuntime>, action: &Action) -> anyhow::Result<()> {
     let Damaged {
         refused,
         other,
         good,
-    } = damage(rt.alloc(), action.text().as_slice())?;
-    let word = score.count(good);
-    println!(rt;
-        "{word} damaged in one byte: {refused} read as nothing, {other} as another action"
+    } = damage(report.rt.alloc(), action.text().as_slice())?;
+    report.case(
+        good,
+        &format_args!("damaged in one byte: {refused} read as nothing, {other} as another action"),
     )?;
     Ok(())
 }
 
 /// A result record: 37 bytes, and nothing behind them.
-fn try_result(rt: &HostRuntime, score: &mut Score) -> anyhow::Result<()> {
+fn try_result(report: &mut Report<'_, HostRuntime>) -> anyhow::Result<()> {
     let key = key(b"a")?;
     let mut room = [0u8; 38];
     let written = write_result(&key, &mut room) == Some(37);
-    let same = is_hex(rt, &room[0..37], RESULT)?;
+    let same = is_hex(report.rt, &room[0..37], RESULT)?;
     let back = read_result(&room[0..37]) == Some(key);
-    let word = score.count(written && same && back);
-    println!(rt; "{word} a result record of 37 bytes reads back")?;
-    let longer = score.count(read_result(&room).is_none());
-    println!(rt; "{longer} one byte more does not")?;
-    let short = score.count(write_result(&key, &mut room[0..36]).is_none());
-    println!(rt; "{short} 36 bytes have no room for it")?;
+    report.case(
+        written && same && back,
+        &"a result record of 37 bytes reads back",
+    )?;
+    report.case(read_result(&room).is_none(), &"one byte more does not")?;
+    report.case(
+        write_result(&key, &mut room[0..36]).is_none(),
+        &"36 bytes have no room for it",
+    )?;
     Ok(())
 }
 
 /// A log entry: its bytes, and that it reads back with what lies behind it.
-fn try_entry(rt: &HostRuntime, score: &mut Score) -> anyhow::Result<()> {
+fn try_entry(report: &mut Report<'_, HostRuntime>) -> anyhow::Result<()> {
     let value = b"hold 15\n";
     let key = key(value)?;
     let mut room = [255u8; 80];
     let written = write_entry(&key, value, &mut room) == Some(74);
-    let same = is_hex(rt, &room[0..74], ENTRY)?;
+    let same = is_hex(report.rt, &room[0..74], ENTRY)?;
     let back = read_entry(&room).is_some_and(|entry| {
         entry.key() == key && entry.has_value(value) && entry.rest().len() == 6
     });
-    let word = score.count(written && same && back);
-    println!(rt; "{word} a log entry of 74 bytes reads back")?;
+    report.case(
+        written && same && back,
+        &"a log entry of 74 bytes reads back",
+    )?;
     room[73] = 1;
-    let padding = score.count(read_entry(&room).is_none());
-    println!(rt; "{padding} one with a padding byte of 1 does not")?;
-    let cut = score.count(read_entry(&room[0..73]).is_none());
-    println!(rt; "{cut} one that is cut does not")?;
+    report.case(
+        read_entry(&room).is_none(),
+        &"one with a padding byte of 1 does not",
+    )?;
+    report.case(
+        read_entry(&room[0..73]).is_none(),
+        &"one that is cut does not",
+    )?;
     Ok(())
 }
 
 /// Sizes of log entries by the length of the value.
-fn try_sizes(rt: &HostRuntime, score: &mut Score) -> anyhow::Result<()> {
+fn try_sizes(report: &mut Report<'_, HostRuntime>) -> anyhow::Result<()> {
     for (length, size) in [(0, 41), (32, 74), (33, 107), (2048, 2153)] {
-        let word = score.count(entry_size(length) == Some(size));
-        println!(rt; "{word} a value of {length} bytes takes {size}")?;
+        report.case(
+            entry_size(length) == Some(size),
+            &format_args!("a value of {length} bytes takes {size}"),
+        )?;
     }
-    let word = score.count(entry_size(2049).is_none());
-    println!(rt; "{word} a value of 2049 bytes has no entry")?;
+    report.case(
+        entry_size(2049).is_none(),
+        &"a value of 2049 bytes has no entry",
+    )?;
     Ok(())
 }
 
 /// What makes an action, and what does not.
-fn try_making(rt: &HostRuntime, score: &mut Score) -> anyhow::Result<()> {
+fn try_making(report: &mut Report<'_, HostRuntime>) -> anyhow::Result<()> {
     let one = [key(b"a")?];
     let five = [one[0]; 5];
     let letters = Action::new(b'A', &[], &one).is_some() && Action::new(b'Z', &[], &one).is_some();
@@ -154,22 +168,24 @@ fn try_making(rt: &HostRuntime, score: &mut Score) -> anyhow::Result<()> {
     let longer = Argument::new(b"seventeen_bytes_n").is_none();
     let bytes = Argument::new(b"!~").is_some() && Argument::new(b" ").is_none();
     let empty = Argument::new(b"").is_none() && Argument::new(b"\x7f").is_none();
-    let word = score.count(letters && others && inputs && longest && longer && bytes && empty);
-    println!(rt; "{word} letters, arguments and inputs at their limits")?;
+    report.case(
+        letters && others && inputs && longest && longer && bytes && empty,
+        &"letters, arguments and inputs at their limits",
+    )?;
     Ok(())
 }
 
 /// Tries all of these.
-pub fn try_formats(rt: &HostRuntime, score: &mut Score) -> anyhow::Result<()> {
+pub fn try_formats(report: &mut Report<'_, HostRuntime>) -> anyhow::Result<()> {
     let keys = [key(b"a")?, key(b"b")?];
     let gain = Argument::new(b"gain").context("no argument")?;
     let upper = action(b'U', &[], &keys[..1])?;
     let keep = action(b'K', &[gain], &keys)?;
-    try_action(rt, score, &upper, UPPER)?;
-    try_action(rt, score, &keep, KEEP)?;
-    try_damaged(rt, score, &keep)?;
-    try_making(rt, score)?;
-    try_result(rt, score)?;
-    try_entry(rt, score)?;
-    try_sizes(rt, score)
+    try_action(report, &upper, UPPER)?;
+    try_action(report, &keep, KEEP)?;
+    try_damaged(report, &keep)?;
+    try_making(report)?;
+    try_result(report)?;
+    try_entry(report)?;
+    try_sizes(report)
 }

@@ -5,12 +5,13 @@
 mod digests;
 mod formats;
 
-use score::Score;
+use score::Report;
 
 fn main(rt: HostRuntime) -> anyhow::Result<()> {
-    let mut score = Score::new();
-    digests::try_digests(&rt, &mut score)?;
-    formats::try_formats(&rt, &mut score)?;
+    let mut report = Report::new(&rt);
+    digests::try_digests(&mut report)?;
+    formats::try_formats(&mut report)?;
+    let score = report.into_score();
     println!(rt; "{score}")?;
     score.verdict()?;
     Ok(())

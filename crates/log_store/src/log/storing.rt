@@ -14,7 +14,7 @@ use stores::{
 };
 
 /// The most bytes of a log.
-const MOST: usize = 65536;
+pub const LOG_ROOM: usize = 65536;
 
 impl Log {
     /// The store over these bytes, as they are; declined for the marks 0 and 255 and for more than 65,536 bytes, and
@@ -26,7 +26,7 @@ impl Log {
         let Ok(mark) = Mark::try_from(mark) else {
             return Err(Declined { given: bytes });
         };
-        if bytes.len() > MOST {
+        if bytes.len() > LOG_ROOM {
             return Err(Declined { given: bytes });
         }
         Ok(Log { mark, bytes })
