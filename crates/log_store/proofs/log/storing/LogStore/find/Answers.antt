@@ -7,7 +7,7 @@ use Rattle.log_store.proofs.log.storing.LogStore.find.Goals as goal
 pub returns-in_default : goal.returns-in_default
 returns-in_default c =
     look_up_none c.in_ok-check_buffer.ensures
-    (seen c.args.self.now c.args.key.now c.as_slice.result.now _ _ c.as_slice.ensures.value c.walk.ensures.last c.in_default.is) c.blank.ensures
+    (seen c.args.self.now c.args.key.now c.as_slice.result.now _ _ c.as_slice.ensures.value c.walk.ensures.last c.in_default.is) c.missing.ensures.answer c.missing.ensures.after
 
 pub returns : goal.returns
 returns c =

@@ -12,7 +12,7 @@ fill-requires c =
     }
 
 pub returns-in_default : goal.returns-in_default
-returns-in_default c = look_up_none c.in_ok-check_buffer.ensures (sym c.in_default.ensures) c.blank.ensures
+returns-in_default c = look_up_none c.in_ok-check_buffer.ensures (sym c.in_default.ensures) c.missing.ensures.answer c.missing.ensures.after
 
 pub returns : goal.returns
 returns c = look_up_some c.in_ok-check_buffer.ensures (sym c.in-Some.ensures) refl c.fill.ensures
