@@ -11,8 +11,9 @@ appended n xs ys zs mid new e f =
     f ∙ (ap (λ ws. take n (ws ++ zs)) e ∙ (cut_again n (xs ++ ys) zs ∙ ap (take n) (append_assoc xs ys zs)))
 
 -- the kind of a record put behind a text, then its body
-pub record_appended : (n b : ℕ) (kind : Kind) (body old mid new : List ℕ) → mid ≡ take n (old ++ b ∷ []) → b ≡ kind_number kind → new ≡ take n (mid ++ body) → new ≡ take n (old ++ record_bytes kind body)
-record_appended n b kind body old mid new e k f = appended n old (b ∷ []) body mid new e f ∙ ap (λ x. take n (old ++ x ∷ body)) k
+pub record_appended : (n b : ℕ) (k kind : Kind) (body old mid new : List ℕ) → mid ≡ take n (old ++ b ∷ []) → b ≡ kind_number k → k ≡ kind → new ≡ take n (mid ++ body) → new ≡ take n (old ++ record_bytes kind body)
+record_appended n b k kind body old mid new e t is f =
+    appended n old (b ∷ []) body mid new e f ∙ ap (λ x. take n (old ++ x ∷ body)) (t ∙ ap kind_number is)
 
 -- no record is put yet
 pub append_none : (n : ℕ) (text : List ℕ) → length text ≤ n → text ≡ take n (text ++ [])

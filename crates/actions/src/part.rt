@@ -83,13 +83,20 @@ pub(crate) fn append_record(text: &mut ActionText, kind: Kind, body: &[u8])
     text.append_what_fits(body);
 }
 
+/// Puts the record of a part behind a text, as far as there is room.
+fn append_part<P: Part>(text: &mut ActionText, part: &P)
+    ensures { few_items text.new ≡ take longest_text (few_items text.old ++ record_bytes P.kind (P.body_of (P.seen part.now))) }
+{
+    text.append_what_fits(&[u8::from(P::kind())]);
+    part.append_body(text);
+}
+
 /// Puts the records of parts behind a text, as far as there is room.
 pub(crate) fn append_parts<P: Part>(text: &mut ActionText, parts: &[P])
     ensures { few_items text.new ≡ take longest_text (few_items text.old ++ flat_map (λ x. record_bytes P.kind (P.body_of (P.seen x))) parts.now) }
 {
     for part in parts {
-        text.append_what_fits(&[u8::from(P::kind())]);
-        part.append_body(text);
+        append_part(text, part);
     }
 }
 
@@ -108,11 +115,11 @@ pub(crate) fn read_parts<P: Part, const N: usize>(bytes: &[u8]) -> (Few<P, N>, &
     let mut parts = Few::new(P::filler());
     let mut rest = bytes;
     for _ in 0..N {
+        // kept: a pair taken apart in the pattern leaves the invariant unproved
         let Some(front) = read_part(rest) else {
             return (parts, rest);
         };
-        // never refused: fewer than N were read
-        let _ = parts.push(front.0);
+        parts.push(front.0).unwrap();
         rest = front.1;
     }
     (parts, rest)

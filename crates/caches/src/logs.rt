@@ -5,18 +5,16 @@ ghost use Rattle.entries.specs.Entries.{entry_of};
 ghost use Rattle.caches.specs.Listings.{looks_like_log, pair_text, ends_well, entry_line, good_end, bad_end, last_line, log_listing};
 
 use crate::pairs::pair_text;
-use entries::{Entries, Entry, VALUE_ROOM};
-use keys::Digest;
+use entries::{Entries, Entry};
+use keys::{Digest, VALUE_ROOM};
+use records::Kind;
 use std::alloc::{AllocError, Global};
-
-/// The first byte of the head of an entry.
-const LOG_HEAD: u8 = 5;
 
 /// Whether a cache file is taken for a log: its first byte is that of the head of an entry.
 pub fn looks_like_log(bytes: &[u8]) -> bool
     ensures { result ≡ looks_like_log bytes.now }
 {
-    matches!(bytes, [LOG_HEAD, ..])
+    bytes.first().is_some_and(|b| *b == u8::from(Kind::LogHead))
 }
 
 /// The pair of an entry as text.
@@ -24,8 +22,7 @@ fn entry_text<D: Digest>(heap: Global, entry: &Entry<'_>) -> Result<String, Allo
     ensures { IfOk result (λ t. string_bytes t ≡ pair_text D.LONGEST D.words (entry_of entry.now).part.key (entry_of entry.now).part.value) }
 {
     let mut room = [0u8; VALUE_ROOM];
-    // the room is that of every value
-    let _ = entry.fill_value(&mut room);
+    entry.fill_value(&mut room).unwrap();
     pair_text::<D>(heap, &entry.key(), &room[..entry.value_len()])
 }
 

@@ -21,13 +21,13 @@ fn about_slot(heap: Global, i: usize, text: &str) -> Result<String, AllocError>
 fn slot_line<D: Digest>(heap: Global, store: &Slots, i: usize) -> Result<String, AllocError>
     ensures { IfOk result (λ t. string_bytes t ≡ slot_line D.LONGEST D.words i (is_damaged_at i (bytes_of store.now)) (pair_at i (bytes_of store.now))) }
 {
-    match (store.key_at(i), store.value_at(i)) {
-        (Some(key), Some(value)) => {
+    match store.pair_at(i) {
+        Some((key, value)) => {
             let pair = pair_text::<D>(heap, &key, value)?;
             about_slot(heap, i, pair.as_str())
         }
-        _ if store.is_damaged_at(i) => about_slot(heap, i, "damaged, read as empty"),
-        _ => Ok(String::new(heap)),
+        None if store.is_damaged_at(i) => about_slot(heap, i, "damaged, read as empty"),
+        None => Ok(String::new(heap)),
     }
 }
 

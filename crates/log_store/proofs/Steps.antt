@@ -1,4 +1,4 @@
-use Rattle.std.proofs.Common.{◌≡◌, ℕ, ◌+◌, ◌-◌, ◌<◌, ◌≤◌, Bool, true, false, cond, leb, List, [], ◌∷◌, ◌++◌, length, take, drop, set, Some, None, Option, sym, refl, ap, ◌∙◌, subst, arith}
+use Rattle.std.proofs.Common.{◌≡◌, ℕ, ◌+◌, ◌-◌, ◌<◌, ◌≤◌, Bool, true, false, cond, leb, List, [], ◌∷◌, ◌++◌, length, take, drop, set, Some, None, Option, Ok, Err, Result, IsErr, is_ok, sym, refl, ap, ◌∙◌, subst, arith}
 use borrow.Rule.Slice.PartMut.{put_mid}
 use Rattle.std.proofs.lemmas.List.{append-nil, length-append, length-take-le, length-drop, take_rest, drop_at, drop_all, set_at}
 use Rattle.std.proofs.lemmas.Bool.{le-leb}
@@ -11,6 +11,11 @@ use Rattle.entries.proofs.Trips as EntriesTrip
 use Rattle.log_store.specs.Contents.{log_entries, log_rest, log_end, later, value_under, last_value, has_room, stopped, with_entry_first, appended}
 use Rattle.log_store.specs.Lasts.{later-later}
 use Rattle.log_store.specs.Appends.{entries_some, rest_within}
+
+-- what is refused is not done
+pub err_not_ok : {X E : Type 0} (r : Result X E) → IsErr r → is_ok r ≡ false
+err_not_ok (Ok x) h = sym h
+err_not_ok (Err e) h = refl
 
 -- a walk passes an entry
 pub passed : (k : Key) (bs rest next : List ℕ) (last : Option (List ℕ)) (e : Split Logged) → Some e ≡ read_entry rest → next ≡ e.rest → last_value k (log_entries bs) ≡ later last (last_value k (log_entries rest)) → last_value k (log_entries bs) ≡ later (later last (value_under k e.part)) (last_value k (log_entries next))

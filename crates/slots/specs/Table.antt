@@ -1,4 +1,5 @@
 use Rattle.std.specs.Prelude.{◌≡◌, ℕ, zero, suc, ◌+◌, ◌*◌, ◌/◌, ◌<◌, min, Bool, false, cond, not, ◌&&◌, List, ◌∷◌, ◌++◌, length, take, drop, Some, None, Option, ◌==◌, nat_le, nat_lt, slice_index}
+use Rattle.std.specs.Borrow.{Bor}
 use Rattle.std.proofs.Math.Seq.{paste}
 use Rattle.std.specs.Option.{option_map, unwrap_or}
 use Rattle.numbers.specs.BigEndian.{big_endian, read_big_endian}
@@ -68,6 +69,10 @@ pair_key p = p.key
 
 abbrev pub pair_value : Pair → List ℕ
 pair_value p = p.value
+
+-- a pair whose value lies in other bytes
+abbrev pub pair_seen : Key × Bor (List ℕ) → Pair
+pair_seen p = record { key = p.0; value = p.1.now }
 
 -- whether a slot is empty though its flag is not 0, as no store leaves it
 abbrev pub is_damaged : List ℕ → Bool

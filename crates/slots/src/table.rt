@@ -5,11 +5,10 @@ ghost use Rattle.std.specs.Option.{option_map, option_map_or};
 ghost use Rattle.keys.specs.Digests.{value_room};
 ghost use Rattle.stores.specs.Numbers.{padded};
 ghost use Rattle.stores.specs.Values.{value_bytes};
-ghost use Rattle.slots.specs.Table.{slot_size, slot_count, slot_at, slot_length, slot_bytes, with_slot, read_slot, pair_key, pair_value, is_taken, is_damaged, slot_has, lowest_slot};
+ghost use Rattle.slots.specs.Table.{slot_size, slot_count, slot_at, slot_length, slot_bytes, with_slot, read_slot, pair_key, pair_value, pair_seen, is_taken, is_damaged, slot_has, lowest_slot};
 
-use keys::Key;
+use keys::{Key, VALUE_ROOM};
 use numbers::{read_number, write_number};
-use stores::store::VALUE_ROOM;
 use stores::{Value, blank};
 
 const LENGTH_AT: usize = 1 + Key::SIZE;
@@ -90,6 +89,13 @@ impl<'a> Slot<'a> {
         }
         let size = self.length() as usize;
         Some(&self.bytes[VALUE_AT..VALUE_AT + size])
+    }
+
+    /// The pair in the slot; absent where it is empty.
+    pub(crate) fn pair(&self) -> Option<(Key, &'a [u8])>
+        ensures { option_map pair_seen result ≡ read_slot self.now.bytes.now }
+    {
+        Some((self.key()?, self.value()?))
     }
 
     /// Whether the slot has a pair of a key.

@@ -1,7 +1,9 @@
-use Rattle.std.proofs.Common.{◌≡◌, ℕ, ◌≤◌, ◌==◌, List, [], length, replicate, Some, None, Ok, Option, sym, refl, ap, ◌∙◌, subst, arith}
+use Rattle.std.proofs.Common.{◌≡◌, ℕ, ◌≤◌, ◌==◌, List, [], length, replicate, Some, None, Ok, Option, Result, sym, refl, ap, ◌∙◌, subst, arith}
 use Rattle.keys.specs.Digests.{value_room}
 use Rattle.keys.specs.declared.key.Key.{Key}
-use Rattle.stores.specs.Numbers.{Raised, no_fault, FindNumbers, PutNumbers, refused_unless, padded}
+use Rattle.stores.specs.Numbers.{Raised, no_fault, FindNumbers, PutNumbers, refused_unless, find_numbers, padded}
+use Rattle.stores.specs.declared.answers.Answer.{Answer}
+use Rattle.stores.specs.declared.answers.StoreError.{StoreError}
 use Rattle.stores.specs.Model.{FindMeans, FindPost}
 use Rattle.stores.specs.LookUps.{found_numbers, found_buffer, LooksUp}
 use Rattle.stores.proofs.Buffers.{blanked, buffer_fits}
@@ -58,5 +60,5 @@ module _ {S : Type 0} {holds : S → Key → List ℕ → Type 0} {raises : S �
       let sized : ℕ → FindNumbers = λ i. record { answer = 1; size = i; first = no_fault } in
       looked_up (Some v) _ e (ap sized en) eo
 
-  pub look_up_none : value s k ≡ None → out ≡ replicate (length b) 0 → FindPost {S = S} (record { holds = holds; raises = raises; finds = LooksUp value; puts = puts }) s k b (record { answer = 2; size = 0; first = no_fault }) out s
-  look_up_none e eo = looked_up None _ e refl (blanked b out (buffer_fits b passed) eo)
+  pub look_up_none : {r : Result (Answer (Option ℕ)) StoreError} → value s k ≡ None → r ≡ Ok (record { value = None; first = None }) → out ≡ replicate (length b) 0 → FindPost {S = S} (record { holds = holds; raises = raises; finds = LooksUp value; puts = puts }) s k b (find_numbers r) out s
+  look_up_none {r} e er eo = looked_up None (find_numbers r) e (ap find_numbers er) (blanked b out (buffer_fits b passed) eo)

@@ -11,5 +11,5 @@ pub mod value;
 pub use self::absent::Absent;
 pub use self::answers::{Answer, Cause, Declined, Fault, FindResult, PutResult, StoreError};
 pub use self::mark::Mark;
-pub use self::store::{Store, blank, check_buffer};
+pub use self::store::{Store, blank, check_buffer, missing};
 pub use self::value::Value;

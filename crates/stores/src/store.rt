@@ -1,11 +1,11 @@
 //! The interface of a store, with its meaning.
 
-ghost use Rattle.std.specs.Prelude.{◌≡◌, ◌==◌, nat_le, length, replicate};
+ghost use Rattle.std.specs.Prelude.{◌≡◌, ◌==◌, nat_le, length, replicate, None, Ok};
 ghost use Rattle.keys.specs.Digests.{value_room};
 ghost use Rattle.stores.specs.Numbers.{find_numbers, put_numbers, refused_unless};
 ghost use Rattle.stores.specs.Model.{Model, HeldMeans, FindMeans, PutMeans, FindPost, PutPost};
 
-use crate::answers::{FindResult, PutResult, StoreError};
+use crate::answers::{Answer, FindResult, PutResult, StoreError};
 use keys::Key;
 pub use keys::VALUE_ROOM;
 
@@ -47,4 +47,16 @@ pub fn blank(buffer: &mut [u8])
     ensures { buffer.new ≡ replicate (length buffer.old) 0 }
 {
     buffer.fill(0);
+}
+
+/// The answer of a find that found no pair of its key; the buffer is filled with zeros.
+pub fn missing(buffer: &mut [u8]) -> FindResult
+    ensures answer { result ≡ Ok (record { value = None; first = None }) }
+    ensures after { buffer.new ≡ replicate (length buffer.old) 0 }
+{
+    blank(buffer);
+    Ok(Answer {
+        value: None,
+        first: None,
+    })
 }

@@ -7,7 +7,7 @@ ghost use Rattle.records.specs.declared.kind.Kind.TheVariants.{End};
 ghost use Rattle.actions.specs.Actions.{several, argument_most, read_argument, read_arguments, read_action, ActionsRoundTrip};
 ghost use Rattle.actions.specs.Views.{act_of};
 
-use super::Action;
+use super::{ARGUMENT_MOST, Action, INPUT_MOST};
 use crate::part::read_parts;
 use records::{Kind, split_record};
 
@@ -22,8 +22,8 @@ fn is_end(bytes: &[u8]) -> bool
 fn read_behind(letter: u8, bytes: &[u8]) -> Option<Action>
     ensures { option_map act_of result ≡ read_arguments letter (several read_argument argument_most bytes.now) }
 {
-    let (arguments, rest) = read_parts::<_, 2>(bytes);
-    let (inputs, rest) = read_parts::<_, 4>(rest);
+    let (arguments, rest) = read_parts::<_, ARGUMENT_MOST>(bytes);
+    let (inputs, rest) = read_parts::<_, INPUT_MOST>(rest);
     if !is_end(rest) {
         return None;
     }

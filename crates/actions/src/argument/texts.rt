@@ -7,7 +7,7 @@ ghost use Rattle.records.specs.declared.kind.Kind.TheVariants.{Argument as Argum
 ghost use Rattle.actions.specs.Words.{argument_byte, is_argument, argument_body, read_argument_body};
 ghost use Rattle.actions.specs.Views.{argument_bytes};
 
-use super::Argument;
+use super::{Argument, BODY, ROOM};
 use crate::action::ActionText;
 use crate::part::Part;
 use lists::{Few, are_zeros};
@@ -24,7 +24,7 @@ fn are_argument_bytes(bytes: &[u8]) -> bool
 fn is_argument(bytes: &[u8]) -> bool
     ensures { result ≡ is_argument bytes.now }
 {
-    !bytes.is_empty() && bytes.len() <= 16 && are_argument_bytes(bytes)
+    !bytes.is_empty() && bytes.len() <= ROOM && are_argument_bytes(bytes)
 }
 
 impl Argument {
@@ -48,10 +48,10 @@ impl Argument {
     }
 
     /// The body of the argument's record: its length, its bytes, zeros.
-    pub fn body(&self) -> [u8; 17]
+    pub fn body(&self) -> [u8; BODY]
         ensures { result ≡ argument_body (argument_bytes self.now) }
     {
-        let mut body = [0u8; 17];
+        let mut body = [0u8; BODY];
         let length = self.bytes.len();
         body[0] = length as u8;
         body[1..1 + length].copy_from_slice(self.as_bytes());

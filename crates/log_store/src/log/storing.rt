@@ -9,8 +9,8 @@ use super::Log;
 use crate::walk::{append, walk};
 use keys::Key;
 use stores::{
-    Answer, Cause, Declined, Fault, FindResult, Mark, PutResult, Store, StoreError, Value, blank,
-    check_buffer,
+    Answer, Cause, Declined, Fault, FindResult, Mark, PutResult, Store, StoreError, Value,
+    check_buffer, missing,
 };
 
 /// The most bytes of a log.
@@ -62,14 +62,9 @@ impl Store for Log {
     fn find(&mut self, key: &Key, buffer: &mut [u8]) -> FindResult {
         check_buffer(buffer)?;
         let Some(entry) = walk(self.bytes.as_slice(), key).last else {
-            blank(buffer);
-            return Ok(Answer {
-                value: None,
-                first: None,
-            });
+            return missing(buffer);
         };
-        // the buffer has room for every value
-        let _ = entry.fill_value(buffer);
+        entry.fill_value(buffer).unwrap();
         Ok(Answer {
             value: Some(entry.value_len()),
             first: None,
@@ -83,17 +78,15 @@ impl Store for Log {
             first: None,
         };
         let met = walk(self.bytes.as_slice(), key);
-        if met.ends_with(value.as_bytes()) {
+        if met.last_is(value.as_bytes()) {
             return Ok(kept);
         }
         let end = met.end;
-        let no_room = Fault {
+        let no_room = StoreError::Failed(Fault {
             mark: self.mark,
             cause: Cause::NoRoom,
-        };
-        match append(self.bytes.as_mut_slice(), end, key, &value) {
-            Some(()) => Ok(kept),
-            None => Err(StoreError::Failed(no_room)),
-        }
+        });
+        append(self.bytes.as_mut_slice(), end, key, &value).map_err(|_| no_room)?;
+        Ok(kept)
     }
 }

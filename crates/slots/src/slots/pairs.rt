@@ -2,7 +2,7 @@
 
 ghost use Rattle.std.specs.Prelude.{◌≡◌, length};
 ghost use Rattle.std.specs.Option.{option_map};
-ghost use Rattle.slots.specs.Table.{slot_count, slot_at, pair_at, pair_key, pair_value, is_damaged_at};
+ghost use Rattle.slots.specs.Table.{slot_count, slot_at, pair_at, pair_key, pair_value, pair_seen, is_damaged_at};
 ghost use Rattle.slots.specs.Storing.{bytes_of, value_found};
 
 use super::Slots;
@@ -22,6 +22,13 @@ impl Slots {
         ensures { option_map (λ s. s.bytes.now) result ≡ slot_at i (bytes_of self.now) }
     {
         Slot::at(self.bytes.as_slice(), i)
+    }
+
+    /// The pair in a slot; absent for an empty slot, and behind the last.
+    pub fn pair_at(&self, i: usize) -> Option<(Key, &[u8])>
+        ensures { option_map pair_seen result ≡ pair_at i (bytes_of self.now) }
+    {
+        self.slot(i)?.pair()
     }
 
     /// The key of the pair in a slot; absent for an empty slot, and behind the last.

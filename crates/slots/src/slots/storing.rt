@@ -9,7 +9,7 @@ ghost use Rattle.slots.specs.Laws.{held_means, find_means, put_means};
 use super::Slots;
 use crate::table::{SLOT, fill, lowest_slot, slot_count, write_slot};
 use keys::Key;
-use stores::{Answer, Declined, FindResult, PutResult, Store, Value, blank, check_buffer};
+use stores::{Answer, Declined, FindResult, PutResult, Store, Value, check_buffer, missing};
 
 impl Slots {
     /// The store over these bytes, as they are; declined where they have no slot, and they come back.
@@ -72,11 +72,7 @@ impl Store for Slots {
     fn find(&mut self, key: &Key, buffer: &mut [u8]) -> FindResult {
         check_buffer(buffer)?;
         let Some(value) = self.value_of(key) else {
-            blank(buffer);
-            return Ok(Answer {
-                value: None,
-                first: None,
-            });
+            return missing(buffer);
         };
         fill(buffer, value);
         Ok(Answer {

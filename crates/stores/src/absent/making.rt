@@ -6,9 +6,9 @@ ghost use Rattle.stores.specs.Numbers.{is_free_mark, making_answer};
 ghost use Rattle.std.proofs.Common.{rules};
 
 use super::Absent;
-use crate::answers::{Answer, Cause, Declined, Fault, FindResult, PutResult, StoreError};
+use crate::answers::{Cause, Declined, Fault, FindResult, PutResult, StoreError};
 use crate::mark::Mark;
-use crate::store::{Store, blank, check_buffer};
+use crate::store::{Store, check_buffer, missing};
 use crate::value::Value;
 use keys::Key;
 
@@ -34,15 +34,11 @@ impl Store for Absent {
 
     fn find(&mut self, _key: &Key, buffer: &mut [u8]) -> FindResult {
         check_buffer(buffer)?;
-        blank(buffer);
-        Ok(Answer {
-            value: None,
-            first: None,
-        })
+        missing(buffer)
     }
 
     fn put(&mut self, _key: &Key, value: &[u8]) -> PutResult {
-        let _ = Value::try_from(value)?;
+        Value::try_from(value)?;
         let fault = Fault {
             mark: self.mark,
             cause: Cause::Absent,

@@ -3,9 +3,9 @@ use Rattle.std.specs.List.{flat_map}
 use Rattle.std.proofs.lemmas.List.{take_all}
 use Rattle.lists.specs.Few.{few_items}
 use Rattle.lists.proofs.Cuts.{length-few_items}
-use Rattle.records.specs.Records.{record_bytes, kind_number}
+use Rattle.records.specs.Records.{record_bytes}
 use Rattle.actions.specs.Actions.{longest_text}
-use Rattle.actions.proofs.Appends.{record_appended, append_none, append_more}
+use Rattle.actions.proofs.Appends.{append_none, append_more}
 use Rattle.actions.proofs.part.append_parts.Goals as goal
 
 pub loop-part-init : goal.loop-part-init
@@ -14,11 +14,8 @@ loop-part-init g c = append_none longest_text (few_items c.args.text.now) (lengt
 pub loop-part-preserved : goal.loop-part-preserved
 loop-part-preserved g c =
     let t = g.P.Part in
-    let text = few_items c.loop-part.text in
-    let kind = c.from.ensures ∙ ap kind_number c.kind.ensures in
-    let put = record_appended longest_text c.from.result t.kind (t.body_of (t.seen c.part-item.result)) text (few_items c.append_what_fits.new.self) _ c.append_what_fits.ensures kind c.append_body.ensures in
-    append_more longest_text (λ x. record_bytes t.kind (t.body_of (t.seen x))) (few_items c.args.text.now) text _
-    c.args.parts.now c.loop-part.part-index c.part-item.result (omega arith) c.part-item.is c.loop-part.invariant put
+    append_more longest_text (λ x. record_bytes t.kind (t.body_of (t.seen x))) (few_items c.args.text.now) (few_items c.loop-part.text) _
+    c.args.parts.now c.loop-part.part-index c.part-item.result (omega arith) c.part-item.is c.loop-part.invariant c.append_part.ensures
 
 pub returns : goal.returns
 returns g c =

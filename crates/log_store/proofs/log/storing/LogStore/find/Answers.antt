@@ -1,3 +1,4 @@
+use Rattle.std.proofs.Common.{rules}
 use Rattle.stores.proofs.Buffers.{buffer_fits}
 use Rattle.stores.proofs.LookUps.{look_up_some, look_up_none}
 use Rattle.entries.specs.Entries.{value_of}
@@ -6,8 +7,8 @@ use Rattle.log_store.proofs.log.storing.LogStore.find.Goals as goal
 
 pub returns-in_default : goal.returns-in_default
 returns-in_default c =
-    look_up_none c.in_ok-check_buffer.ensures
-    (seen c.args.self.now c.args.key.now c.as_slice.result.now _ _ c.as_slice.ensures.value c.walk.ensures.last c.in_default.is) c.blank.ensures
+    let e = seen c.args.self.now c.args.key.now c.as_slice.result.now _ _ c.as_slice.ensures.value c.walk.ensures.last c.in_default.is in
+    search (rules, look_up_none, e)
 
 pub returns : goal.returns
 returns c =

@@ -1,4 +1,4 @@
-use Rattle.std.proofs.Common.{sym, refl}
+use Rattle.std.proofs.Common.{sym, refl, rules}
 use Rattle.stores.proofs.Buffers.{buffer_fits}
 use Rattle.stores.proofs.LookUps.{look_up_some, look_up_none}
 use Rattle.slots.specs.Laws.{found_short}
@@ -12,7 +12,7 @@ fill-requires c =
     }
 
 pub returns-in_default : goal.returns-in_default
-returns-in_default c = look_up_none c.in_ok-check_buffer.ensures (sym c.in_default.ensures) c.blank.ensures
+returns-in_default c = search (rules, look_up_none)
 
 pub returns : goal.returns
 returns c = look_up_some c.in_ok-check_buffer.ensures (sym c.in-Some.ensures) refl c.fill.ensures

@@ -1,6 +1,6 @@
-use Rattle.std.proofs.Common.{refl}
+use Rattle.std.proofs.Common.{rules}
 use Rattle.stores.proofs.LookUps.{look_up_none}
 use Rattle.stores.proofs.absent.making.AbsentStore.find.Goals as goal
 
 pub returns : goal.returns
-returns c = look_up_none c.in_ok-check_buffer.ensures refl c.blank.ensures
+returns c = search (rules, look_up_none)
