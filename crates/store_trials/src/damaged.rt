@@ -1,14 +1,13 @@
 //! Stores over damaged bytes: what still reads is found, what does not is missing, and puts go on.
 
 use anyhow::Context;
-use keys::{Fnv1a, Key, key_of};
+use keys::{Fnv1a, Key, VALUE_ROOM, key_of};
 use lists::are_zeros;
 use log_store::Log;
 use score::Report;
 use slots::{SLOT, Slots};
 use std::fmt;
 use stores::Store;
-use stores::store::VALUE_ROOM;
 
 const GAIN: &[u8] = b"gain 1 2\n";
 
