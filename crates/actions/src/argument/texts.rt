@@ -28,7 +28,7 @@ fn is_argument(bytes: &[u8]) -> bool
 }
 
 impl Argument {
-    // kept: bytes that are no argument have no reason to tell, so `TryFrom` would add an error that says nothing.
+    // kept: bytes that are no argument have no reason to tell, so `TryFrom` would add an error that says nothing
     /// The argument of these bytes; absent where they are not 1 to 16 bytes of 33 to 126.
     pub fn new(bytes: &[u8]) -> Option<Argument>
         ensures { option_map argument_bytes result ≡ (if is_argument bytes.now then Some bytes.now else None) }

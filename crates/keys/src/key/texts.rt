@@ -53,7 +53,7 @@ impl Key {
         ensures { result ≡ key_bytes self.now }
     {
         let mut bytes = [0u8; Key::SIZE];
-        let _ = self.write(&mut bytes);
+        self.write(&mut bytes).unwrap();
         bytes
     }
 
