@@ -2,21 +2,38 @@
 
 #![tactic(auto)]
 
-ghost use Rattle.std.specs.Prelude.{◌≡◌, ◌≢◌, ◌*◌, ◌↔◌, [], ◌∷◌, Some, None, false, length, is_ok, IsErrOf, IfOk, if◌then◌else◌, string_bytes};
+ghost use Rattle.std.specs.Prelude.{◌≡◌, ◌≢◌, ◌*◌, ◌<◌, ◌≤◌, ◌↔◌, Some, true, false, length, is_ok, IsErrOf, IfOk, if◌then◌else◌, string_bytes};
 ghost use Rattle.std.specs.Fmt.{WritesOnOk};
-ghost use Rattle.hexadecimal.specs.Hex.{hex, is_digit, are_digits, digit_value, unhex, writes_bytes, not_hex_text, HexRoundTrip};
+ghost use Rattle.hexadecimal.specs.Hex.{hex, hex_digit, is_digit, are_digits, digit_value, unhex, writes_bytes, not_hex_text, HexRoundTrip};
 ghost use Rattle.hexadecimal.specs.declared.NotHex;
 
 use std::alloc::{AllocError, Global};
 use std::error::Error;
-use std::fmt;
+use std::{fmt, str};
 
-/// Writes a byte as two digits.
-#[tactic(auto, using(std::proofs::lemmas::Fmt::hex_byte))]
-fn write_byte<W: fmt::Write>(b: u8, f: &mut fmt::Formatter<W>) -> fmt::Result
-    ensures { WritesOnOk W.write_str_gives f.old result (hex (b ∷ [])) f.new }
+/// The bytes whose digits are written at once: a write for each byte would cost more than its digits.
+const PIECE: usize = 64;
+
+/// The digit of a number below 16.
+fn digit(n: u8) -> u8
+    requires { n < 16 }
+    ensures { result ≡ hex_digit n }
 {
-    write!(f, "{b:02x}")
+    if n < 10 { b'0' + n } else { b'a' + (n - 10) }
+}
+
+/// Writes a piece of the bytes, two digits to each.
+fn write_piece<W: fmt::Write>(piece: &[u8], f: &mut fmt::Formatter<W>) -> fmt::Result
+    requires { length piece.now ≤ PIECE }
+    ensures { WritesOnOk W.write_str_gives f.old result (hex piece.now) f.new }
+{
+    let mut digits = [0; 2 * PIECE];
+    for (i, b) in piece.iter().enumerate() {
+        digits[2 * i] = digit(*b / 16);
+        digits[2 * i + 1] = digit(*b % 16);
+    }
+    let text = str::from_utf8(&digits[..2 * piece.len()]).unwrap();
+    f.write_str(text)
 }
 
 /// Bytes that print as hexadecimal text: two digits to each byte, the high one first.
@@ -27,8 +44,8 @@ impl fmt::Display for Hex<'_> {
     ghost output = { λ h. Some (hex h.0.now) };
 
     fn fmt<W: fmt::Write>(&self, f: &mut fmt::Formatter<W>) -> fmt::Result {
-        for b in self.0 {
-            write_byte(*b, f)?;
+        for piece in self.0.chunks(PIECE) {
+            write_piece(piece, f)?;
         }
         Ok(())
     }
@@ -63,22 +80,28 @@ impl fmt::Display for NotHex {
 
 impl Error for NotHex {}
 
-/// The number of a digit 0 to 9 or a to f; absent for another character.
-fn digit_value(c: u8) -> Option<u8>
-    ensures { result ≡ (if is_digit c then Some (digit_value c) else None) }
+/// Whether a character is a digit 0 to 9 or a to f.
+fn is_digit(c: u8) -> bool
+    ensures { result ≡ is_digit c }
 {
-    match c {
-        b'0'..=b'9' => Some(c - b'0'),
-        b'a'..=b'f' => Some(c - b'a' + 10),
-        _ => None,
-    }
+    matches!(c, b'0'..=b'9' | b'a'..=b'f')
 }
 
 /// Whether each character is such a digit.
 fn are_digits(text: &[u8]) -> bool
     ensures { result ≡ are_digits text.now }
 {
-    text.iter().all(|c| digit_value(*c).is_some())
+    text.iter().all(|c| is_digit(*c))
+}
+
+// no `Option`, since each character is looked at before a byte is written, and a second look would take as long
+/// The number of such a digit.
+fn digit_value(c: u8) -> u8
+    requires { is_digit c ≡ true }
+    ensures value { result ≡ digit_value c }
+    ensures small { result < 16 }
+{
+    if c < b'a' { c - b'0' } else { c - b'a' + 10 }
 }
 
 /// Fills a slice with the bytes that a text writes; a text that does not write exactly so many bytes leaves the slice
@@ -98,7 +121,7 @@ pub fn read_hex(text: &[u8], into: &mut [u8]) -> Result<(), NotHex>
     let (pairs, _) = text.as_chunks::<2>();
     // kept: by index, since after a `zip` with `into.iter_mut()` a proof knows nothing of the bytes
     for (i, [high, low]) in pairs.iter().enumerate() {
-        into[i] = digit_value(*high).unwrap() * 16 + digit_value(*low).unwrap();
+        into[i] = digit_value(*high) * 16 + digit_value(*low);
     }
     Ok(())
 }

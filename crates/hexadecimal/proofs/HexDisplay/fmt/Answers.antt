@@ -1,9 +1,22 @@
-use Rattle.std.proofs.Common.{sym, arith, rules}
-use Rattle.std.proofs.Output.{has_written_append, has_written_of_eq}
-use Rattle.hexadecimal.proofs.More.{hex_more}
+use Rattle.std.proofs.Common.{sym, ap, ◌∙◌, ◌++◌, arith, rules, append_assoc}
+use Rattle.std.proofs.Output.{has_written_append}
+use Rattle.std.specs.Slice.Iter.{chunks_rest}
+use Rattle.hexadecimal.specs.Hex.{hex}
+use Rattle.hexadecimal.proofs.More.{hex_append}
 use Rattle.hexadecimal.proofs.HexDisplay.fmt.Goals as goal
 
-pub loop-b-preserved : goal.loop-b-preserved
-loop-b-preserved g c = λ plain.
-    let e = hex_more c.args.self.now.0.now c.loop-b.b-index (omega arith) in
-    has_written_of_eq _ _ _ _ _ (sym e) (has_written_append _ _ _ _ _ _ (c.loop-b.invariant plain) (search rules))
+pub loop-piece-preserved : goal.loop-piece-preserved
+loop-piece-preserved g c =
+    let steps = c.in-Some.ensures.steps in
+    let xs = c.in-Some.piece.now in
+    let rest = chunks_rest c.next.new.self in (
+      omega arith,
+      λ plain.
+          let so_far = c.loop-piece.invariant.1 plain in (
+            so_far.0 ++ hex xs,
+            has_written_append _ _ _ _ _ _ so_far.1 (search rules),
+            append_assoc so_far.0 _ _
+                ∙ ap (λ t. so_far.0 ++ t) (sym (ap hex steps.1.0 ∙ hex_append xs rest))
+                ∙ so_far.2,
+          ),
+    )
