@@ -5,13 +5,14 @@ ghost use Rattle.std.specs.Prelude.{Some, codes, ◌≡◌, ◌^◌, ◌<◌, �
 use std::error::Error;
 use std::fmt;
 
+pub mod comparing;
 pub mod printing;
 pub mod texts;
 
 pub use self::printing::NoKey;
 
 /// The four words of a digest, and how many bytes were digested.
-#[derive(Clone, Copy, Debug, PartialEq, Eq)] // compared by all its fields
+#[derive(Clone, Copy, Debug)]
 pub struct Key {
     words: [u64; 4],
     count: u32,

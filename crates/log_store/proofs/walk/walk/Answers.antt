@@ -1,7 +1,6 @@
 use Rattle.std.proofs.Common.{◌≡◌, ◌-◌, length, sym, ap, ◌∙◌, arith}
 use Rattle.std.specs.Option.{option_map}
 use Rattle.std.proofs.lemmas.Bool.{both_ways}
-use Rattle.keys.specs.SameKeys.{same_key_decides}
 use Rattle.entries.specs.Entries.{entry_of, value_of, read_entry}
 use Rattle.log_store.specs.Contents.{log_entries, later, value_under, last_value}
 use Rattle.log_store.specs.Lasts.{under_own, under_other}
@@ -15,10 +14,9 @@ last_step : (c : goal.After-rest-rest) → option_map value_of c.if-eq.last ≡ 
 last_step c =
     let e = (entry_of c.in-Some.entry).part in
     let old = option_map value_of c.loop-entry.last in
-    let same = same_key_decides c.key.result c.args.key.now in
     elim c.if-eq.branch [
-      | then-eq w ↦ ap (option_map value_of) w.last-is ∙ ap (later old) (sym (under_own c.args.key.now e (sym c.key.ensures ∙ same.0 (sym c.eq.ensures ∙ w.if-eq.true))))
-      | else-eq w ↦ ap (option_map value_of) w.last-is ∙ ap (later old) (sym (under_other c.args.key.now e (λ h. both_ways _ w.if-eq.false (c.eq.ensures ∙ same.1 (c.key.ensures ∙ h)))))
+      | then-eq w ↦ ap (option_map value_of) w.last-is ∙ ap (later old) (sym (under_own c.args.key.now e (sym c.key.ensures ∙ c.eq.ensures.equal.0 w.if-eq.true)))
+      | else-eq w ↦ ap (option_map value_of) w.last-is ∙ ap (later old) (sym (under_other c.args.key.now e (λ h. both_ways _ w.if-eq.false (c.eq.ensures.equal.1 (c.key.ensures ∙ h)))))
     ]
 
 pub loop-entry-preserved : goal.loop-entry-preserved
