@@ -11,11 +11,10 @@ ghost use Rattle.keys.specs.Texts.{key_text, read_key_text};
 ghost use Rattle.listing.specs.Lines.{key_line, action_lines};
 
 use actions::Action;
-use hexadecimal::Hex;
+use hexadecimal::{Hex, read_hex};
 pub use keys::key_texts_round_trip;
 use keys::{Digest, Key, key_of};
 use std::alloc::{AllocError, Global};
-use std::str;
 
 /// A key as people read it.
 pub fn key_text(heap: Global, key: &Key) -> Result<String, AllocError>
@@ -46,11 +45,13 @@ pub fn key_line<D: Digest>(
 }
 
 /// The key that a text is the text of; absent for a text of another form.
-#[tactic(auto, using(crate::proofs::Texts::no_key))]
 pub fn key_from_text(text: &[u8]) -> Option<Key>
     ensures { result ≡ read_key_text text.now }
 {
-    str::from_utf8(text).ok()?.parse().ok()
+    // by bytes and not by `parse`, which wants a `&str`: `read_hex` refuses another length before it reads any
+    let mut bytes = [0u8; Key::SIZE];
+    read_hex(text, &mut bytes).ok()?;
+    Key::read(&bytes)
 }
 
 /// The lines of an action: its text in hexadecimal, and the key of that text under a digest.
