@@ -1,7 +1,10 @@
-use Rattle.std.proofs.Common.{◌≡◌, ℕ, ◌-◌, ◌*◌, ◌≤◌, true, List, [], ◌∷◌, ◌++◌, map, length, replicate, refl, arith}
+use Rattle.std.proofs.Common.{◌≡◌, ℕ, ◌-◌, ◌*◌, ◌<◌, ◌≤◌, true, false, cond, List, [], ◌∷◌, ◌++◌, Some, None, map, length, drop, replicate, refl, sym, ap, arith}
 use Rattle.std.specs.List.{flat_map, list_all}
 use Rattle.std.proofs.lemmas.List.{length-append, length-map, length-replicate}
 use Rattle.std.proofs.lemmas.Bool.{and_from, and_parts}
+use Rattle.std.proofs.lemmas.Bool.Decides.{nat_tests}
+use Rattle.records.specs.Records.{fits_at}
+use Rattle.records.specs.Results.{front_size, with_front}
 use Rattle.keys.specs.declared.key.Key.{Key}
 use Rattle.keys.proofs.Trips.{length-key_bytes}
 use Rattle.lists.specs.Few.{few_items}
@@ -47,7 +50,7 @@ length_text a t =
     omega arith
 
 -- every argument of the code is one
-each_argument : (ws : List Argument) → list_all is_argument (map argument_bytes ws) ≡ true
+pub each_argument : (ws : List Argument) → list_all is_argument (map argument_bytes ws) ≡ true
 each_argument [] = refl
 each_argument (w ∷ ws) = and_from _ _ w.good (each_argument ws)
 
@@ -59,3 +62,13 @@ length_of_action a =
     let m = length-few_items a.arguments in
     let n = length-few_items a.inputs in
     omega arith
+
+-- the size of the text of an action
+pub size_of_action : (a : Action) → length (action_text (act_of a)) ≡ action_size (length (act_of a).arguments) (length (act_of a).inputs)
+size_of_action a = length_text (act_of a) (each_argument (few_items a.arguments))
+
+-- where a text does not fit, nothing is written
+pub too_small : (bytes buffer : List ℕ) → length buffer < length bytes → (None ≡ front_size bytes buffer) × (buffer ≡ with_front bytes buffer)
+too_small bytes buffer h =
+    let t : fits_at (length bytes) 0 buffer ≡ false = grind (arith, nat_tests) in
+    (sym (ap (λ b. cond b (Some (length bytes)) None) t), sym (ap (λ b. cond b (bytes ++ drop (length bytes) buffer) buffer) t))

@@ -45,7 +45,7 @@ body_only (n ∷ bs) w long h =
     let z : drop n bs ≡ replicate (16 - length w) 0 = zeros_only (drop n bs) q.1 ∙ ap (λ k. replicate k 0) lz in
     ap (λ k. k ∷ bs) (sym ln) ∙ ap (λ xs. length w ∷ xs) (sym (take-append-drop n bs) ∙ (ap (λ xs. xs ++ drop n bs) made.1 ∙ ap (λ xs. w ++ xs) z))
 
-mapped_some : {X Y : Type 0} (f : X → Y) (o : Option X) (y : Y) → option_map f o ≡ Some y → (x : X) × (o ≡ Some x) × (f x ≡ y)
+pub mapped_some : {X Y : Type 0} (f : X → Y) (o : Option X) (y : Y) → option_map f o ≡ Some y → (x : X) × (o ≡ Some x) × (f x ≡ y)
 mapped_some f None y h = absurd (none-some y h)
 mapped_some f (Some x) y h = (x, refl, cc)
 

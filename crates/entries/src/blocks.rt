@@ -51,6 +51,10 @@ pub(crate) fn block_body(piece: &[u8]) -> [u8; BLOCK]
     requires { length piece.now ≤ block_size }
     ensures { result ≡ zeros_to block_size piece.now }
 {
+    // most pieces are whole: a copy of a fixed size, with no padding to work out
+    if let Ok(whole) = <[u8; BLOCK]>::try_from(piece) {
+        return whole;
+    }
     let mut body = [0u8; BLOCK];
     body[..piece.len()].copy_from_slice(piece);
     body

@@ -41,6 +41,10 @@ impl Action {
         ensures answer { result ≡ front_size (action_text (act_of self.now)) into.old }
         ensures after { into.new ≡ with_front (action_text (act_of self.now)) into.old }
     {
+        // no text is made for a buffer that has no room for it
+        if into.len() < self.size() {
+            return None;
+        }
         let text = self.text();
         let bytes = text.as_slice();
         let (front, _) = into.split_at_mut_checked(bytes.len())?;
