@@ -4,7 +4,7 @@ use Rattle.keys.specs.declared.key.Key.{Key}
 use Rattle.stores.specs.Numbers.{Raised, no_fault, FindNumbers, PutNumbers, refused_unless, find_numbers, padded}
 use Rattle.stores.specs.declared.answers.Answer.{Answer}
 use Rattle.stores.specs.declared.answers.StoreError.{StoreError}
-use Rattle.stores.specs.Model.{FindMeans, FindPost}
+use Rattle.stores.specs.Model.{Model, FindMeans, FindPost}
 use Rattle.stores.specs.LookUps.{found_numbers, found_buffer, LooksUp}
 use Rattle.stores.proofs.Buffers.{blanked, buffer_fits}
 
@@ -46,19 +46,29 @@ module _ {S : Type 0} (holds : S → Key → List ℕ → Type 0) (raises : S �
     same_faults = λ s t k r p f g. let At : S → Type 0 = λ u. raises u g in (λ h. subst At (sym f.same) h, λ h. subst At f.same h);
   }
 
--- a find that filled the buffer with the value, and one that blanked it where there is none
-module _ {S : Type 0} {holds : S → Key → List ℕ → Type 0} {raises : S → Raised → Type 0} {puts : S → Key → List ℕ → PutNumbers → S → Type 0} {value : S → Key → Option (List ℕ)} {s : S} {k : Key} {b out : List ℕ} (passed : Ok tt ≡ refused_unless (length b == value_room)) where
-  looked_up : (o : Option (List ℕ)) (r : FindNumbers) → value s k ≡ o → r ≡ found_numbers o → out ≡ found_buffer o → FindPost {S = S} (record { holds = holds; raises = raises; finds = LooksUp value; puts = puts }) s k b r out s
-  looked_up o r e er eo =
+-- a find that filled the buffer with the value, and one that blanked it where there is none, in every store whose finds may look up so
+module _ {S : Type 0} (m : Model S) (value : S → Key → Option (List ℕ)) (looks : (s : S) (k : Key) (r : FindNumbers) (p : List ℕ) (t : S) → LooksUp value s k r p t → m.finds s k r p t) (s : S) (k : Key) (b : List ℕ) (room : length b ≡ value_room) where
+  looked_up : (o : Option (List ℕ)) (r : FindNumbers) (out : List ℕ) → value s k ≡ o → r ≡ found_numbers o → out ≡ found_buffer o → FindPost m s k b r out s
+  looked_up o r out e er eo =
       record {
-        does = λ _. record { answer = er ∙ sym (ap found_numbers e); buffer = eo ∙ sym (ap found_buffer e); same = refl };
-        refuses = λ other. absurd (other (buffer_fits b passed));
+        does = λ _. looks s k r out s (record { answer = er ∙ sym (ap found_numbers e); buffer = eo ∙ sym (ap found_buffer e); same = refl });
+        refuses = λ other. absurd (other room);
       }
 
-  pub look_up_some : {v : List ℕ} {n : ℕ} → value s k ≡ Some v → n ≡ length v → out ≡ padded v → FindPost {S = S} (record { holds = holds; raises = raises; finds = LooksUp value; puts = puts }) s k b (record { answer = 1; size = n; first = no_fault }) out s
-  look_up_some {v} e en eo =
+  pub looks_some : (v out : List ℕ) (n : ℕ) → value s k ≡ Some v → n ≡ length v → out ≡ padded v → FindPost m s k b (record { answer = 1; size = n; first = no_fault }) out s
+  looks_some v out n e en eo =
       let sized : ℕ → FindNumbers = λ i. record { answer = 1; size = i; first = no_fault } in
-      looked_up (Some v) _ e (ap sized en) eo
+      looked_up (Some v) _ out e (ap sized en) eo
+
+  pub looks_none : (out : List ℕ) → value s k ≡ None → out ≡ replicate (length b) 0 → FindPost m s k b (record { answer = 2; size = 0; first = no_fault }) out s
+  looks_none out e eo = looked_up None _ out e refl (blanked b out room eo)
+
+-- the same of a store whose finds look up and do nothing else, from what its find has tested and answers
+module _ {S : Type 0} {holds : S → Key → List ℕ → Type 0} {raises : S → Raised → Type 0} {puts : S → Key → List ℕ → PutNumbers → S → Type 0} {value : S → Key → Option (List ℕ)} {s : S} {k : Key} {b out : List ℕ} (passed : Ok tt ≡ refused_unless (length b == value_room)) where
+  pub look_up_some : {v : List ℕ} {n : ℕ} → value s k ≡ Some v → n ≡ length v → out ≡ padded v → FindPost {S = S} (record { holds = holds; raises = raises; finds = LooksUp value; puts = puts }) s k b (record { answer = 1; size = n; first = no_fault }) out s
+  look_up_some {v} {n} e en eo = looks_some _ value (λ s k r p t f. f) s k b (buffer_fits b passed) v out n e en eo
 
   pub look_up_none : {r : Result (Answer (Option ℕ)) StoreError} → value s k ≡ None → r ≡ Ok (record { value = None; first = None }) → out ≡ replicate (length b) 0 → FindPost {S = S} (record { holds = holds; raises = raises; finds = LooksUp value; puts = puts }) s k b (find_numbers r) out s
-  look_up_none {r} e er eo = looked_up None (find_numbers r) e (ap find_numbers er) (blanked b out (buffer_fits b passed) eo)
+  look_up_none {r} e er eo =
+      let Post : FindNumbers → Type 0 = λ n. FindPost {S = S} (record { holds = holds; raises = raises; finds = LooksUp value; puts = puts }) s k b n out s in
+      subst Post (sym (ap find_numbers er)) (looks_none _ value (λ s k r p t f. f) s k b (buffer_fits b passed) out e eo)
