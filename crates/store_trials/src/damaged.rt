@@ -1,11 +1,11 @@
 //! Stores over damaged bytes: what still reads is found, what does not is missing, and puts go on.
 
 use anyhow::Context;
-use keys::{Fnv1a, Key, VALUE_ROOM, key_of};
+use keys::{Fnv1a, Key, key_of};
 use lists::are_zeros;
 use log_store::Log;
 use score::Report;
-use slots::{SLOT, Slots};
+use slots::Slots;
 use std::fmt;
 use stores::Store;
 
@@ -64,7 +64,7 @@ const SLOT_DAMAGE: [(Damage, &[u8]); 6] = [
 
 /// Whether a find gives exactly a value, and zeros behind it.
 fn finds<S: Store>(store: &mut S, key: &Key, value: &[u8]) -> bool {
-    let mut buffer = [255u8; VALUE_ROOM];
+    let mut buffer = [255u8; 2048];
     let Ok(answer) = store.find(key, &mut buffer) else {
         return false;
     };
@@ -84,13 +84,26 @@ fn keeps<S: Store>(store: &mut S, value: &[u8]) -> anyhow::Result<bool> {
     Ok(store.put(&key, value).is_ok())
 }
 
+/// Whether a find under the key of no bytes gives nothing, not even another value.
+fn lacks_empty(store: &mut Log) -> anyhow::Result<bool> {
+    let key = key_of::<Fnv1a>(b"").context("too long")?;
+    let mut buffer = [255u8; 2048];
+    let missing = store
+        .find(&key, &mut buffer)
+        .is_ok_and(|answer| answer.value.is_none());
+    Ok(missing && are_zeros(&buffer))
+}
+
 /// Whether a log finds which of its three values, and no others.
 fn has_left(store: &mut Log, left: [bool; 3]) -> anyhow::Result<bool> {
-    let mut all = true;
-    for (value, is_left) in [GAIN, RAMPS, b""].iter().zip(left.iter()) {
-        all = all && has(store, value)? == *is_left;
-    }
-    Ok(all)
+    let [gain, ramps, empty] = left;
+    // a damaged value is found under its key as another one; the value of no bytes has none that could be damaged
+    let rest = if empty {
+        has(store, b"")?
+    } else {
+        lacks_empty(store)?
+    };
+    Ok(has(store, GAIN)? == gain && has(store, RAMPS)? == ramps && rest)
 }
 
 /// Whether a damaged log finds which of its entries, before and after a put that goes where it breaks off.
@@ -117,7 +130,8 @@ fn plant(slot: &mut [u8], place: usize, from: &[u8]) {
 fn try_slots(rt: &HostRuntime, damage: Damage, value: &[u8]) -> anyhow::Result<bool> {
     let mut bytes: Vec<u8> = vec![in rt.alloc(); 0; 4200]?;
     let key = key_of::<Fnv1a>(GAIN).context("too long")?;
-    let slots = bytes.as_mut_slice().chunks_exact_mut(SLOT);
+    // the layout as docs/FORMATS.md has it, and not as the code that is tried says
+    let slots = bytes.as_mut_slice().chunks_exact_mut(2089);
     for (slot, value) in slots.zip([GAIN, HOLD]) {
         plant(slot, 0, &[1]);
         plant(slot, 1, &key.to_bytes());
