@@ -54,18 +54,18 @@ pub each_argument : (ws : List Argument) → list_all is_argument (map argument_
 each_argument [] = refl
 each_argument (w ∷ ws) = and_from _ _ w.good (each_argument ws)
 
+-- the size of the text of an action
+pub size_of_action : (a : Action) → length (action_text (act_of a)) ≡ action_size (length (act_of a).arguments) (length (act_of a).inputs)
+size_of_action a = length_text (act_of a) (each_argument (few_items a.arguments))
+
 -- there is room for the text of every action
 pub length_of_action : (a : Action) → length (action_text (act_of a)) ≤ longest_text
 length_of_action a =
-    let l = length_text (act_of a) (each_argument (few_items a.arguments)) in
+    let l = size_of_action a in
     let k = length-map (few_items a.arguments) argument_bytes in
     let m = length-few_items a.arguments in
     let n = length-few_items a.inputs in
     omega arith
-
--- the size of the text of an action
-pub size_of_action : (a : Action) → length (action_text (act_of a)) ≡ action_size (length (act_of a).arguments) (length (act_of a).inputs)
-size_of_action a = length_text (act_of a) (each_argument (few_items a.arguments))
 
 -- where a text does not fit, nothing is written
 pub too_small : (bytes buffer : List ℕ) → length buffer < length bytes → (None ≡ front_size bytes buffer) × (buffer ≡ with_front bytes buffer)
